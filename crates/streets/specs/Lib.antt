@@ -1,0 +1,4 @@
+pub mod Meaning
+pub mod Lists
+pub mod Grid
+pub mod Sounds
