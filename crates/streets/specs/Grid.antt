@@ -15,9 +15,13 @@ pub record Grid : Type 0 where
   pub seconds : ℕ
   pub climb : ℕ
 
+-- x is at least low and at most high
+abbrev pub within : ℕ → ℕ → ℕ → Bool
+within low x high = leb low x && leb x high
+
 -- the ranges that a quarter keeps
 abbrev pub inRange : Grid → Bool
-inRange g = leb 1 (g .width) && (leb 1 (g .height) && (leb (g .width * g .height) 64 && (leb 1 (g .kinds) && (leb (g .kinds) 255 && (leb (g .seconds) 65535 && leb (g .climb) 65535)))))
+inRange g = within 1 (g .width) 64 && (within 1 (g .height) 64 && (leb (g .width * g .height) 64 && (within 1 (g .kinds) 255 && (leb (g .seconds) 65535 && leb (g .climb) 65535))))
 
 module _ (g : Grid) where
   -- place p is the crossing (column p, row p)
@@ -46,7 +50,7 @@ module _ (g : Grid) where
     places = g .width * g .height;
     kind = λ p. cond (inside p) (1 + (column p + row p) % g .kinds) 0;
     leg = λ a b. cond (inside a && inside b)
-      (cond (up a b) (Some (legOf (g .climb)))
-      (cond (up b a || (right a b || right b a)) (Some (legOf 0)) None))
-      None;
+        (cond (up a b) (Some (legOf (g .climb)))
+        (cond (up b a || (right a b || right b a)) (Some (legOf 0)) None))
+        None;
   }
