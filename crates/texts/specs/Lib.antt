@@ -1,0 +1,5 @@
+pub mod Faults
+pub mod Cut
+pub mod Numbers
+pub mod Tokens
+pub mod Means
