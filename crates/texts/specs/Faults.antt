@@ -91,12 +91,9 @@ inText f = faultIn (textOf f) (Line f)
 abbrev pub spot : Text → ℕ → ℕ → Spot
 spot t l f = record { text = t; line = l; field = f }
 
--- the spot of the next field, and the spot before the fields of the next line
+-- the spot of the next field
 abbrev pub nextField : Spot → Spot
 nextField s = spot (s .text) (s .line) (s .field + 1)
-
-abbrev pub nextLine : Spot → Spot
-nextLine s = spot (s .text) (s .line + 1) 0
 
 -- the fault of one field, and the fault of a line as a whole
 abbrev pub fieldFault : FieldWrong → Spot → FieldFault

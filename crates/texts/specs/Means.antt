@@ -12,7 +12,7 @@ use Rattle.std.specs.declared.result.Result.{Result}
 use Rattle.std.specs.declared.result.Result.the-variants.{Ok, Err}
 use Rattle.texts.specs.declared.fault.LineFault.{LineFault}
 use Rattle.texts.specs.declared.fault.LineWrong.the-variants.{Unended}
-use Rattle.texts.specs.Faults.{spot, nextLine, nextField, lineFault}
+use Rattle.texts.specs.Faults.{spot, nextField, lineFault}
 use Rattle.texts.specs.Cut.{Row, rows, fieldsFrom}
 
 -- the rows that follow the line at hand
@@ -27,10 +27,16 @@ fieldsLeft r = fieldsFrom (take (r .end) (r .text .now)) (r .pos)
 abbrev pub spotOf : Reader → Spot
 spotOf r = spot (r .which) (r .line) (r .field)
 
--- a reader went from a to b over one line, found no line, or found one without its end
+-- a reader went from a to b over one line
+pub record NewLine (a b : Reader) : Type 0 where
+  pub row : rowsLeft a ≡ (fieldsLeft b, true) ∷ rowsLeft b
+  pub same-text : b .which ≡ a .which
+  pub counted : b .line ≡ a .line + 1
+  pub first : b .field ≡ 0
+
+-- it went over one line, found no line, or found one without its end
 abbrev pub LineStep : Reader → Reader → Result Bool LineFault → Type 0
-LineStep a b (Ok true) = (rowsLeft a ≡ (fieldsLeft b, true) ∷ rowsLeft b) × (spotOf b ≡ nextLine (spotOf a))
-LineStep a b (Ok false) = (rowsLeft a ≡ []) × (b ≡ a)
+LineStep a b (Ok more) = (more ≡ true → NewLine a b) × (more ≡ false → (rowsLeft a ≡ []) × (b ≡ a))
 LineStep a b (Err f) = ((fs : List (List ℕ)) × (rowsLeft a ≡ (fs, false) ∷ [])) × (f ≡ lineFault Unended (a .which) (a .line + 1)) × (b ≡ a)
 
 -- a reader went from a to b over one field f of the line at hand

@@ -1,0 +1,5 @@
+pub mod Meaning
+pub mod Laws
+pub mod Time
+pub mod Longest
+pub mod Climb
