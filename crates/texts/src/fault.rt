@@ -1,6 +1,6 @@
 ghost use mathlib.Core.Path.{_≡_};
 ghost use Rattle.texts.specs.declared.fault.LineFault.the-variants.{Field};
-ghost use Rattle.texts.specs.Faults.{textOf, inText, numberOfField, numberOfLine, numberOfText, numberInLine, spotInLine, numberOfCause, lineOfCause, fieldOfCause, causeOf, numberOf, lineOf, fieldOf};
+ghost use Rattle.texts.specs.Faults.{textOf, inText, numberOfField, numberOfLine, numberOfText, numberInLine, spotInLine, numberOfCause, lineOfCause, fieldOfCause, causeOf, numberOf, lineOf, fieldOf, fieldFault, spot as spotAt};
 
 // Which of the two texts: a street book or a job.
 #[derive(Clone, Copy)]
@@ -103,6 +103,16 @@ pub impl From<LineFault> for TextFault as TextFromLine {
             Text::Book => TextFault::Book(Cause::Line(fault)),
             Text::Job => TextFault::Job(Cause::Line(fault)),
         }
+    }
+}
+
+impl Spot {
+    // What is wrong with a field of the line that the spot is in.
+    pub fn fault(self, wrong: FieldWrong, field: usize) -> LineFault
+        ensures { λ r. ⌜ r ≡ Field (fieldFault wrong (spotAt (self .text) (self .line) field)) ⌝ }
+    {
+        let at = Spot { text: self.text, line: self.line, field };
+        LineFault::Field(FieldFault { wrong, at })
     }
 }
 

@@ -12,7 +12,6 @@ ghost use Rattle.texts.specs.Faults.{spot as spotAt, lineFault, fieldFault};
 ghost use Rattle.texts.specs.Numbers.{letterIn, numberIn, numberOrDashIn};
 ghost use Rattle.texts.specs.Means.{rowsLeft, fieldsLeft, spotOf, LineStep, FieldStep, Moved};
 ghost use Rattle.texts.specs.Tokens.{partOf, startOf, Sorted};
-use crate::fault::FieldFault;
 use crate::fault::FieldWrong;
 use crate::fault::LineFault;
 use crate::fault::LineFromField;
@@ -218,14 +217,7 @@ impl<'a> Reader<'a> {
     pub fn field_fault(&self, wrong: FieldWrong, field: usize) -> LineFault
         ensures { λ r. ⌜ r ≡ Field (fieldFault wrong (spotAt (now (self .entry) .which) (now (self .entry) .line) field)) ⌝ }
     {
-        LineFault::Field(FieldFault {
-            wrong,
-            at: Spot {
-                text: self.which,
-                line: self.line,
-                field,
-            },
-        })
+        self.spot().fault(wrong, field)
     }
 
     // The byte of the next field, if that field is one byte.

@@ -1,0 +1,19 @@
+use mathlib.Core.Path.{_≡_}
+use Prim.Native.Nat.{_+_, _≤_}
+use lib.ListN.{length}
+use Rattle.texts.specs.declared.fault.Text.the-variants.{Book}
+use Rattle.texts.specs.Cut.{rows}
+use Rattle.texts.specs.Means.{rowsLeft}
+use Rattle.texts.specs.Rows.{readRows, stateAfter}
+use Rattle.books.specs.Books.{counts, bookLines}
+use Rattle.books.proofs.book.judge.Given as given
+
+abbrev pub Inv-loop-reader : given.InvT-loop-reader
+Inv-loop-reader l =
+    (l .reader .which ≡ Book)
+  × (l .told .places ≤ l .room .kinds)
+  × (l .told .legs ≤ l .room .legs)
+  × (stateAfter (bookLines (l .room)) (l .told) (readRows (bookLines (l .room)) (l .told) (l .reader .line + 1) (rowsLeft (l .reader))) ≡ stateAfter (bookLines (l .room)) (counts 0 0) (readRows (bookLines (l .room)) (counts 0 0) 1 (rows (l .text))))
+
+abbrev pub μ-loop-reader : given.MeasureT-loop-reader
+μ-loop-reader l = length (rowsLeft (l .reader))
