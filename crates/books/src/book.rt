@@ -26,7 +26,8 @@ pub const MOST_BYTES: usize = 65535;
 
 // The first pass: how much the lines tell, or the first refused line's fault. Nothing is written.
 fn judge(text: &[u8], room: Room) -> Result<Counts, LineFault>
-    ensures { λ r. ⌜ r ≡ stateAfter (bookLines room) (countsOf 0 0) (readRows (bookLines room) (countsOf 0 0) 1 (rows (now (text .entry)))) ⌝ }
+    ensures within { λ r. ⌜ made r (λ c. (c .places ≤ room .kinds) × (c .legs ≤ room .legs)) ⌝ }
+    ensures value { λ r. ⌜ r ≡ stateAfter (bookLines room) (countsOf 0 0) (readRows (bookLines room) (countsOf 0 0) 1 (rows (now (text .entry)))) ⌝ }
 {
     let mut reader = Reader::new(Text::Book, text);
     let mut told = Counts { places: 0, legs: 0 };
@@ -41,7 +42,8 @@ fn judge(text: &[u8], room: Room) -> Result<Counts, LineFault>
 
 // The first pass over a whole text, which must not be too long.
 fn judge_book(text: &[u8], room: Room) -> Result<Counts, TextFault>
-    ensures { λ r. ⌜ r ≡ tally (readBook room (now (text .entry))) ⌝ }
+    ensures within { λ r. ⌜ made r (λ c. (c .places ≤ room .kinds) × (c .legs ≤ room .legs)) ⌝ }
+    ensures value { λ r. ⌜ r ≡ tally (readBook room (now (text .entry))) ⌝ }
 {
     if text.len() > MOST_BYTES {
         return Err(TextFault::Book(Cause::Whole(TextWrong::TooLong)));
@@ -76,9 +78,13 @@ fn fill(text: &[u8], room: Room, kinds: &mut [u8], legs: &mut [LegRecord]) -> Re
 // refused text has written nothing.
 pub fn read_book(text: &[u8], kinds: &mut [u8], legs: &mut [LegRecord]) -> Result<Counts, TextFault>
     ensures value { λ r. ⌜ r ≡ tally (readBook (roomIn (length (now (kinds .entry))) (length (now (legs .entry)))) (now (text .entry))) ⌝ }
+    ensures within { λ r. ⌜ made r (λ c. (c .places ≤ 64) × (c .places ≤ length (now (kinds .entry))) × (c .legs ≤ length (now (legs .entry)))) ⌝ }
     ensures written { λ _. ⌜ Cases (readBook (roomIn (length (now (kinds .entry))) (length (now (legs .entry)))) (now (text .entry))) (λ b. (now (kinds .exit) ≡ over (b .kinds) (now (kinds .entry))) × (now (legs .exit) ≡ over (b .legs) (now (legs .entry)))) (λ _. (now (kinds .exit) ≡ now (kinds .entry)) × (now (legs .exit) ≡ now (legs .entry))) ⌝ }
 {
-    let room = Room { kinds: kinds.len().min(MOST_PLACES), legs: legs.len().min(MOST_RECORDS) };
+    let room = Room {
+        kinds: kinds.len().min(MOST_PLACES),
+        legs: legs.len().min(MOST_RECORDS),
+    };
     let counts = judge_book(text, room)?;
     fill(text, room, kinds, legs)?;
     Ok(counts)

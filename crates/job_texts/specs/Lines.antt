@@ -61,5 +61,5 @@ stopOf s t fs = andThen (partsOf s fs) (judged s t)
 abbrev pub lineOf : Spot → ℕ → List (List ℕ) → Result Stop LineFault
 lineOf s t fs =
     cond (is 83 (letterIn fs))
-      (cond (eqb (length fs) 5) (stopOf (nextField s) t (drop 1 fs)) (badLine FieldCount s))
-      (badField NotLetter s 1)
+    (cond (eqb (length fs) 5) (stopOf (nextField s) t (drop 1 fs)) (badLine FieldCount s))
+    (badField NotLetter s 1)

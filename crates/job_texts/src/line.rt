@@ -20,6 +20,7 @@ use texts::reader::Reader;
 
 // The most that a stop, a parent and a kind may be.
 const LAST_STOP: u64 = 11;
+
 const LAST_KIND: u64 = 255;
 
 // The fields of a stop line: a lone `-` as parent is none, and the link is a letter.
@@ -36,8 +37,14 @@ fn read_link(at: Spot, parent: u8, letter: Option<u8>) -> Result<Option<Tie>, Li
     ensures { λ r. ⌜ r ≡ linkOf at parent letter ⌝ }
 {
     match letter {
-        Some(b) if b == b'd' => Ok(Some(Tie { parent, link: Link::Direct })),
-        Some(b) if b == b'r' => Ok(Some(Tie { parent, link: Link::Ride })),
+        Some(b) if b == b'd' => Ok(Some(Tie {
+            parent,
+            link: Link::Direct,
+        })),
+        Some(b) if b == b'r' => Ok(Some(Tie {
+            parent,
+            link: Link::Ride,
+        })),
         _ => Err(at.fault(FieldWrong::WrongLink, 5)),
     }
 }
@@ -53,7 +60,12 @@ fn read_root(at: Spot, letter: Option<u8>) -> Result<Option<Tie>, LineFault>
 }
 
 // How the stop after `told` others is tied, by its parent field and its link's letter.
-fn read_tie(at: Spot, told: usize, parent: Option<u64>, letter: Option<u8>) -> Result<Option<Tie>, LineFault>
+fn read_tie(
+    at: Spot,
+    told: usize,
+    parent: Option<u64>,
+    letter: Option<u8>,
+) -> Result<Option<Tie>, LineFault>
     requires { ⌜ found parent (λ p. p ≤ 11) ⌝ }
     ensures value { λ r. ⌜ r ≡ tieOf at told parent letter ⌝ }
     ensures keeps { λ r. ⌜ made r (λ t. tied told t ≡ true) ⌝ }
@@ -85,7 +97,12 @@ fn read_parts(reader: &mut Reader) -> Result<StopLine, LineFault>
     let parent = reader.number_or_dash(LAST_STOP)?;
     let kind = reader.number(LAST_KIND)?;
     let letter = reader.letter();
-    Ok(StopLine { number, parent, kind, letter })
+    Ok(StopLine {
+        number,
+        parent,
+        kind,
+        letter,
+    })
 }
 
 // The stop that a stop line tells after `told` others.
@@ -98,7 +115,10 @@ fn judge(at: Spot, told: usize, line: StopLine) -> Result<Stop, LineFault>
         return Err(at.fault(FieldWrong::NotNextStop, 2));
     }
     let tie = read_tie(at, told, line.parent, line.letter)?;
-    Ok(Stop { kind: line.kind as u8, tie })
+    Ok(Stop {
+        kind: line.kind as u8,
+        tie,
+    })
 }
 
 // A stop line after its letter.

@@ -31,13 +31,13 @@ module _ {S E : Type 0} (g : Grammar S E) (s : S) (a : Reader) (in-text : a .whi
   module _ (b c : Reader) (e : Result E LineFault) (n : NewLine a b) (kept : Kept b c) (is : e ≡ g .line (spotOf b) s (fieldsLeft b)) where
     row-here : restOf ≡ andThen e (λ x. before x (readRows g (g .next s x) (c .line + 1) (rowsLeft c)))
     row-here =
-      let here : spotOf b ≡ spot (g .text) (a .line + 1) 0 = ap (λ t. spot t (b .line) (b .field)) (n .same-text ∙ in-text) ∙ ap (λ l. spot (g .text) l (b .field)) (n .counted) ∙ ap (spot (g .text) (a .line + 1)) (n .first) in
-      let said : g .line (spot (g .text) (a .line + 1) 0) s (fieldsLeft b) ≡ e = ap (λ p. g .line p s (fieldsLeft b)) (sym here) ∙ sym is in
-      let line : a .line + 1 ≡ c .line = sym (n .counted) ∙ sym (kept .2) in
-      ap (readRows g s (a .line + 1)) (n .row)
-      ∙ ap (λ r. andThen r (λ x. before x (readRows g (g .next s x) (a .line + 1 + 1) (rowsLeft b)))) said
-      ∙ ap (λ l. andThen e (λ x. before x (readRows g (g .next s x) (l + 1) (rowsLeft b)))) line
-      ∙ ap (λ rs. andThen e (λ x. before x (readRows g (g .next s x) (c .line + 1) rs))) (sym (kept .0))
+        let here : spotOf b ≡ spot (g .text) (a .line + 1) 0 = ap (λ t. spot t (b .line) (b .field)) (n .same-text ∙ in-text) ∙ ap (λ l. spot (g .text) l (b .field)) (n .counted) ∙ ap (spot (g .text) (a .line + 1)) (n .first) in
+        let said : g .line (spot (g .text) (a .line + 1) 0) s (fieldsLeft b) ≡ e = ap (λ p. g .line p s (fieldsLeft b)) (sym here) ∙ sym is in
+        let line : a .line + 1 ≡ c .line = sym (n .counted) ∙ sym (kept .2) in
+        ap (readRows g s (a .line + 1)) (n .row)
+        ∙ ap (λ r. andThen r (λ x. before x (readRows g (g .next s x) (a .line + 1 + 1) (rowsLeft b)))) said
+        ∙ ap (λ l. andThen e (λ x. before x (readRows g (g .next s x) (l + 1) (rowsLeft b)))) line
+        ∙ ap (λ rs. andThen e (λ x. before x (readRows g (g .next s x) (c .line + 1) rs))) (sym (kept .0))
 
     pub row-refused : (f : LineFault) → e ≡ Err f → restOf ≡ Err f
     row-refused f bad = row-here ∙ ap (λ r. andThen r (λ x. before x (readRows g (g .next s x) (c .line + 1) (rowsLeft c)))) bad

@@ -111,7 +111,11 @@ impl Spot {
     pub fn fault(self, wrong: FieldWrong, field: usize) -> LineFault
         ensures { λ r. ⌜ r ≡ Field (fieldFault wrong (spotAt (self .text) (self .line) field)) ⌝ }
     {
-        let at = Spot { text: self.text, line: self.line, field };
+        let at = Spot {
+            text: self.text,
+            line: self.line,
+            field,
+        };
         LineFault::Field(FieldFault { wrong, at })
     }
 }

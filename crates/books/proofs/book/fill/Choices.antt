@@ -12,11 +12,11 @@ use Rattle.books.proofs.book.fill.Given as given
 abbrev pub Inv-loop-reader : given.InvT-loop-reader
 Inv-loop-reader l =
     (l .reader .which ≡ Book)
-  × (l .told .places ≤ l .room .kinds)
-  × (l .told .legs ≤ l .room .legs)
-  × (drop (l .told .places) (l .kinds) ≡ drop (l .told .places) (l .entry .kinds))
-  × (drop (l .told .legs) (l .legs) ≡ drop (l .told .legs) (l .entry .legs))
-  × (after (take (l .told .places) (l .kinds)) (take (l .told .legs) (l .legs)) (readRows (bookLines (l .room)) (l .told) (l .reader .line + 1) (rowsLeft (l .reader))) ≡ bookOf (readRows (bookLines (l .room)) (counts 0 0) 1 (rows (l .text))))
+    × (l .told .places ≤ l .room .kinds)
+    × (l .told .legs ≤ l .room .legs)
+    × (drop (l .told .places) (l .kinds) ≡ drop (l .told .places) (l .entry .kinds))
+    × (drop (l .told .legs) (l .legs) ≡ drop (l .told .legs) (l .entry .legs))
+    × (after (take (l .told .places) (l .kinds)) (take (l .told .legs) (l .legs)) (readRows (bookLines (l .room)) (l .told) (l .reader .line + 1) (rowsLeft (l .reader))) ≡ bookOf (readRows (bookLines (l .room)) (counts 0 0) 1 (rows (l .text))))
 
 abbrev pub μ-loop-reader : given.MeasureT-loop-reader
 μ-loop-reader l = length (rowsLeft (l .reader))

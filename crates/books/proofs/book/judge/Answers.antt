@@ -9,7 +9,7 @@ use Rattle.books.proofs.book.judge.Needs as need
 pub returns-in-Break-read-line : need.returns-in-Break-read-line
 returns-in-Break-read-line c =
     let bad = row-refused (bookLines (c .args .room)) (c .loop-reader .told) (c .loop-reader .reader) (c .loop-reader .inv .0) (c .next-line .last .self) (c .read-line .last .reader) _ (c .in-Continue-next-line .ensures tt .0 (c .if-branch .taken)) (c .read-line .ensures .kept) (c .read-line .ensures .value) _ (c .in-Break-read-line .was tt) in
-    search needs
+    record { within = search needs; value = search needs }
 
 pub loop-reader-again-in-Place : need.loop-reader-again-in-Place
 loop-reader-again-in-Place c =

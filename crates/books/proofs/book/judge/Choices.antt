@@ -11,9 +11,9 @@ use Rattle.books.proofs.book.judge.Given as given
 abbrev pub Inv-loop-reader : given.InvT-loop-reader
 Inv-loop-reader l =
     (l .reader .which ≡ Book)
-  × (l .told .places ≤ l .room .kinds)
-  × (l .told .legs ≤ l .room .legs)
-  × (stateAfter (bookLines (l .room)) (l .told) (readRows (bookLines (l .room)) (l .told) (l .reader .line + 1) (rowsLeft (l .reader))) ≡ stateAfter (bookLines (l .room)) (counts 0 0) (readRows (bookLines (l .room)) (counts 0 0) 1 (rows (l .text))))
+    × (l .told .places ≤ l .room .kinds)
+    × (l .told .legs ≤ l .room .legs)
+    × (stateAfter (bookLines (l .room)) (l .told) (readRows (bookLines (l .room)) (l .told) (l .reader .line + 1) (rowsLeft (l .reader))) ≡ stateAfter (bookLines (l .room)) (counts 0 0) (readRows (bookLines (l .room)) (counts 0 0) 1 (rows (l .text))))
 
 abbrev pub μ-loop-reader : given.MeasureT-loop-reader
 μ-loop-reader l = length (rowsLeft (l .reader))

@@ -11,11 +11,11 @@ use Rattle.books.proofs.book.judge_book.Needs as need
 pub returns-in-Break-judge : need.returns-in-Break-judge
 returns-in-Break-judge c =
     let g = bookLines (c .args .room) in
-    let bad = refused-is g (counts 0 0) (readRows g (counts 0 0) 1 (rows (c .args .text .now))) (c .in-Break-judge .field-0 .0) (c .in-Break-judge .ensures tt) in
+    let bad = refused-is g (counts 0 0) (readRows g (counts 0 0) 1 (rows (c .args .text .now))) (c .in-Break-judge .field-0 .0) (c .in-Break-judge .ensures tt .value) in
     let said = turned g (line-says (c .args .room)) (counts 0 0) 1 (rows (c .args .text .now)) (c .in-Break-judge .field-0 .0) bad in
-    search needs
+    record { within = search needs; value = search needs }
 
 pub returns : need.returns
 returns c =
     let told = tallied (c .args .room) (readRows (bookLines (c .args .room)) (counts 0 0) 1 (rows (c .args .text .now))) in
-    search needs
+    record { within = search needs; value = search needs }

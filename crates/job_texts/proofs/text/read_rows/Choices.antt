@@ -13,7 +13,7 @@ use Rattle.job_texts.proofs.text.read_rows.Given as given
 abbrev pub Inv-loop-reader : given.InvT-loop-reader
 Inv-loop-reader l =
     (l .reader .which ≡ Job)
-  × (after (drafted (l .draft)) (readRows jobLines (length (drafted (l .draft))) (l .reader .line + 1) (rowsLeft (l .reader))) ≡ readRows jobLines 0 1 (rows (l .text)))
+    × (after (drafted (l .draft)) (readRows jobLines (length (drafted (l .draft))) (l .reader .line + 1) (rowsLeft (l .reader))) ≡ readRows jobLines 0 1 (rows (l .text)))
 
 abbrev pub μ-loop-reader : given.MeasureT-loop-reader
 μ-loop-reader l = length (rowsLeft (l .reader))

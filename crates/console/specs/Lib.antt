@@ -1,0 +1,4 @@
+pub mod Lines
+pub mod Limits
+pub mod Accounts
+pub mod Inputs

@@ -1,0 +1,4 @@
+pub mod account;
+pub mod inputs;
+pub mod limit;
+pub mod line;
