@@ -203,14 +203,12 @@ impl<'a> Reader<'a> {
     pub fn line_fault(&self, wrong: LineWrong) -> LineFault
         ensures { λ r. ⌜ r ≡ lineFault wrong (now (self .entry) .which) (now (self .entry) .line) ⌝ }
     {
-        LineFault::Whole {
-            wrong,
-            at: Spot {
-                text: self.which,
-                line: self.line,
-                field: 0,
-            },
-        }
+        let at = Spot {
+            text: self.which,
+            line: self.line,
+            field: 0,
+        };
+        LineFault::Whole { wrong, at }
     }
 
     // What is wrong with one field of the line at hand.
