@@ -9,7 +9,7 @@ use Rattle.std.specs.declared.result.Result.the-variants.{Ok, Err}
 use Rattle.std.specs.Vec.{made}
 use Rattle.std.proofs.shelf.Lists.{take-more-set, drop-set-lt, drop-drop, take-append-drop, append-nil, length-take-le}
 use Rattle.streets.specs.declared.legs.LegRecord.{LegRecord}
-use Rattle.texts.specs.declared.fault.LineFault.{LineFault}
+use Rattle.faults.specs.declared.LineFault.{LineFault}
 use Rattle.texts.specs.Rows.{before, lastState, stateAfter}
 use Rattle.books.specs.declared.line.Entry.{Entry}
 use Rattle.books.specs.declared.line.Entry.the-variants.{Place, Leg}

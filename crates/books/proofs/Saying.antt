@@ -4,8 +4,8 @@ use mathlib.Core.List.{List}
 use Prim.Native.Nat.{ℕ}
 use lib.Dec.{eqb, ltb}
 use lib.ListN.{length, drop}
-use Rattle.texts.specs.declared.fault.Spot.{Spot}
-use Rattle.texts.specs.Faults.{nextField}
+use Rattle.faults.specs.declared.Spot.{Spot}
+use Rattle.faults.specs.Faults.{nextField}
 use Rattle.texts.specs.Numbers.{numberIn, letterIn}
 use Rattle.texts.specs.Rules.{is}
 use Rattle.texts.proofs.Says.{Says, either-says, then-says, number-says}

@@ -5,8 +5,8 @@ use lib.ListN.{length, drop}
 use Rattle.std.specs.declared.result.Result.{Result}
 use Rattle.std.specs.declared.result.Result.the-variants.{Ok, Err}
 use Rattle.streets.specs.declared.legs.LegRecord.{LegRecord}
-use Rattle.texts.specs.declared.fault.Text.the-variants.{Book as OfBook}
-use Rattle.texts.specs.declared.fault.TextFault.{TextFault}
+use Rattle.faults.specs.declared.Text.the-variants.{Book as OfBook}
+use Rattle.faults.specs.declared.TextFault.{TextFault}
 use Rattle.texts.specs.Rows.{Grammar, readText}
 use Rattle.books.specs.declared.line.Entry.{Entry}
 use Rattle.books.specs.declared.line.Entry.the-variants.{Place, Leg}

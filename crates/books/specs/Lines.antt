@@ -7,11 +7,11 @@ use lib.ListN.{length, drop}
 use Rattle.std.specs.declared.result.Result.{Result}
 use Rattle.std.specs.declared.result.Result.the-variants.{Ok}
 use Rattle.streets.specs.declared.legs.LegRecord.{LegRecord}
-use Rattle.texts.specs.declared.fault.FieldWrong.the-variants.{NotLetter, NotNextPlace, UntoldPlace, SameEnds, KindZero}
-use Rattle.texts.specs.declared.fault.LineWrong.the-variants.{FieldCount, Full}
-use Rattle.texts.specs.declared.fault.LineFault.{LineFault}
-use Rattle.texts.specs.declared.fault.Spot.{Spot}
-use Rattle.texts.specs.Faults.{nextField}
+use Rattle.faults.specs.declared.FieldWrong.the-variants.{NotLetter, NotNextPlace, UntoldPlace, SameEnds, KindZero}
+use Rattle.faults.specs.declared.LineWrong.the-variants.{FieldCount, Full}
+use Rattle.faults.specs.declared.LineFault.{LineFault}
+use Rattle.faults.specs.declared.Spot.{Spot}
+use Rattle.faults.specs.Faults.{nextField}
 use Rattle.texts.specs.Numbers.{numberIn, letterIn}
 use Rattle.texts.specs.Rules.{andThen, badField, badLine, is}
 use Rattle.books.specs.declared.line.Entry.{Entry}

@@ -10,15 +10,15 @@ use crate::line::Counts;
 use crate::line::Entry;
 use crate::line::Room;
 use crate::line::read_line;
+use faults::Cause;
+use faults::LineFault;
+use faults::Text;
+use faults::TextFault;
+use faults::TextFromLine;
+use faults::TextWrong;
 use streets::legs::LegRecord;
 use streets::list::MOST_PLACES;
 use streets::list::MOST_RECORDS;
-use texts::fault::Cause;
-use texts::fault::LineFault;
-use texts::fault::Text;
-use texts::fault::TextFault;
-use texts::fault::TextFromLine;
-use texts::fault::TextWrong;
 use texts::reader::Reader;
 
 // The most bytes that a text may have.

@@ -5,11 +5,11 @@ ghost use Prim.Native.Nat.{_<_};
 ghost use Rattle.texts.specs.Means.{fieldsLeft, spotOf};
 ghost use Rattle.texts.specs.Rules.{Kept};
 ghost use Rattle.books.specs.Lines.{placeOf, legOf, lineOf, Fits};
+use faults::FieldWrong;
+use faults::LineFault;
+use faults::LineWrong;
 use streets::legs::Leg;
 use streets::legs::LegRecord;
-use texts::fault::FieldWrong;
-use texts::fault::LineFault;
-use texts::fault::LineWrong;
 use texts::reader::Reader;
 
 // What one line of a book tells.

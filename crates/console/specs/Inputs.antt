@@ -7,8 +7,8 @@ use lib.ListN.{length}
 use Rattle.std.specs.declared.result.Result.{Result}
 use Rattle.std.specs.declared.result.Result.the-variants.{Ok, Err}
 use Rattle.jobs.specs.declared.stops.Stop.{Stop}
-use Rattle.texts.specs.declared.fault.TextFault.{TextFault}
-use Rattle.texts.specs.Faults as faults
+use Rattle.faults.specs.declared.TextFault.{TextFault}
+use Rattle.faults.specs.Faults as faults
 use Rattle.books.specs.declared.line.Room.{Room}
 use Rattle.books.specs.Books.{Told, readBook, counts}
 use Rattle.job_texts.specs.Texts.{readJob}

@@ -11,10 +11,10 @@ use crate::limit::LimitRefusal;
 use crate::limit::admit;
 use books::book::read_book;
 use books::line::Counts;
+use faults::TextFault;
 use job_texts::text::read_job;
 use jobs::job::Job;
 use streets::legs::LegRecord;
-use texts::fault::TextFault;
 
 // How much was read: places and legs, and stops.
 #[derive(Clone, Copy)]

@@ -11,10 +11,10 @@ use Rattle.std.specs.declared.result.Result.{Result}
 use Rattle.std.specs.declared.result.Result.the-variants.{Ok, Err}
 use Rattle.jobs.specs.declared.job.Draft.{Draft}
 use Rattle.jobs.specs.declared.stops.Stop.{Stop}
-use Rattle.texts.specs.declared.fault.LineFault.{LineFault}
-use Rattle.texts.specs.declared.fault.Spot.{Spot}
+use Rattle.faults.specs.declared.LineFault.{LineFault}
+use Rattle.faults.specs.declared.Spot.{Spot}
 use Rattle.texts.specs.Cut.{Row}
-use Rattle.texts.specs.Faults.{nextField}
+use Rattle.faults.specs.Faults.{nextField}
 use Rattle.texts.specs.Numbers.{numberIn, numberOrDashIn, letterIn}
 use Rattle.texts.specs.Rows.{before, readRows}
 use Rattle.texts.specs.Rules.{is}

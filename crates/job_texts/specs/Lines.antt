@@ -12,11 +12,11 @@ use Rattle.jobs.specs.declared.stops.Link.{Link}
 use Rattle.jobs.specs.declared.stops.Link.the-variants.{Direct, Ride}
 use Rattle.jobs.specs.declared.stops.Tie.{Tie}
 use Rattle.jobs.specs.declared.stops.Stop.{Stop}
-use Rattle.texts.specs.declared.fault.FieldWrong.the-variants.{NotLetter, NotNextStop, WrongParent, WrongLink}
-use Rattle.texts.specs.declared.fault.LineWrong.the-variants.{FieldCount}
-use Rattle.texts.specs.declared.fault.LineFault.{LineFault}
-use Rattle.texts.specs.declared.fault.Spot.{Spot}
-use Rattle.texts.specs.Faults.{nextField}
+use Rattle.faults.specs.declared.FieldWrong.the-variants.{NotLetter, NotNextStop, WrongParent, WrongLink}
+use Rattle.faults.specs.declared.LineWrong.the-variants.{FieldCount}
+use Rattle.faults.specs.declared.LineFault.{LineFault}
+use Rattle.faults.specs.declared.Spot.{Spot}
+use Rattle.faults.specs.Faults.{nextField}
 use Rattle.texts.specs.Numbers.{numberIn, numberOrDashIn, letterIn}
 use Rattle.job_texts.specs.declared.line.StopLine.{StopLine}
 use Rattle.texts.specs.Rules.{andThen, badField, badLine, is}

@@ -7,11 +7,11 @@ use Rattle.std.specs.declared.result.Result.the-variants.{Ok, Err}
 use Rattle.jobs.specs.declared.job.Draft.{Draft}
 use Rattle.jobs.specs.declared.stops.Stop.{Stop}
 use Rattle.jobs.specs.Jobs.{drafted}
-use Rattle.texts.specs.declared.fault.Text.the-variants.{Job as OfJob}
-use Rattle.texts.specs.declared.fault.TextWrong.the-variants.{NoLines}
-use Rattle.texts.specs.declared.fault.Cause.the-variants.{Whole}
-use Rattle.texts.specs.declared.fault.TextFault.{TextFault}
-use Rattle.texts.specs.declared.fault.TextFault.the-variants.{Job as InJob}
+use Rattle.faults.specs.declared.Text.the-variants.{Job as OfJob}
+use Rattle.faults.specs.declared.TextWrong.the-variants.{NoLines}
+use Rattle.faults.specs.declared.Cause.the-variants.{Whole}
+use Rattle.faults.specs.declared.TextFault.{TextFault}
+use Rattle.faults.specs.declared.TextFault.the-variants.{Job as InJob}
 use Rattle.texts.specs.Rows.{Grammar, readText}
 use Rattle.job_texts.specs.Lines.{lineOf}
 

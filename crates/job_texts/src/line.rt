@@ -9,13 +9,13 @@ ghost use Rattle.jobs.specs.Trees.{tied};
 ghost use Rattle.texts.specs.Means.{fieldsLeft, spotOf};
 ghost use Rattle.texts.specs.Rules.{Kept};
 ghost use Rattle.job_texts.specs.Lines.{linkOf, tieOf, partsOf, judged, stopOf, lineOf};
+use faults::FieldWrong;
+use faults::LineFault;
+use faults::LineWrong;
+use faults::Spot;
 use jobs::stops::Link;
 use jobs::stops::Stop;
 use jobs::stops::Tie;
-use texts::fault::FieldWrong;
-use texts::fault::LineFault;
-use texts::fault::LineWrong;
-use texts::fault::Spot;
 use texts::reader::Reader;
 
 // The most that a stop, a parent and a kind may be.

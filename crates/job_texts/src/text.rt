@@ -5,14 +5,14 @@ ghost use Rattle.jobs.specs.Jobs.{drafted, stopsOf};
 ghost use Rattle.texts.specs.Rows.{readRows, readText};
 ghost use Rattle.job_texts.specs.Texts.{jobLines, readJob, draftedIn, tally};
 use crate::line::read_line;
+use faults::Cause;
+use faults::LineFault;
+use faults::Text;
+use faults::TextFault;
+use faults::TextFromLine;
+use faults::TextWrong;
 use jobs::job::Draft;
 use jobs::job::Job;
-use texts::fault::Cause;
-use texts::fault::LineFault;
-use texts::fault::Text;
-use texts::fault::TextFault;
-use texts::fault::TextFromLine;
-use texts::fault::TextWrong;
 use texts::reader::Reader;
 
 // The most bytes that a text may have.

@@ -6,6 +6,7 @@
 use books::book::read_book;
 use books::line::Counts;
 use console::limit::admit;
+use faults::TextFault;
 use job_texts::text::read_job;
 use jobs::job::Job;
 use jobs::stops::Link;
@@ -16,7 +17,6 @@ use std::error::AnyError;
 use std::io;
 use streets::legs::Leg;
 use streets::legs::LegRecord;
-use texts::fault::TextFault;
 
 #[derive(Clone, Copy)]
 enum State {
@@ -28,10 +28,14 @@ enum State {
 
 // What stands in the lists before a text is read.
 const OLD_KIND: u8 = 77;
+
 const OLD_LEG: LegRecord = LegRecord {
     from: 77,
     to: 77,
-    leg: Leg { climb: 7, seconds: 7 },
+    leg: Leg {
+        climb: 7,
+        seconds: 7,
+    },
 };
 
 fn escaped(out: &mut Vec<u8>, b: u8) -> Result<State, AllocError> {

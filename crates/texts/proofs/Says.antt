@@ -8,11 +8,11 @@ use Rattle.std.specs.declared.option.Option.{Option}
 use Rattle.std.specs.declared.option.Option.the-variants.{Some, None}
 use Rattle.std.specs.declared.result.Result.{Result}
 use Rattle.std.specs.declared.result.Result.the-variants.{Ok, Err}
-use Rattle.texts.specs.declared.fault.Text.{Text}
-use Rattle.texts.specs.declared.fault.Spot.{Spot}
-use Rattle.texts.specs.declared.fault.FieldFault.{FieldFault}
-use Rattle.texts.specs.declared.fault.LineFault.{LineFault}
-use Rattle.texts.specs.Faults.{textOf, nextField}
+use Rattle.faults.specs.declared.Text.{Text}
+use Rattle.faults.specs.declared.Spot.{Spot}
+use Rattle.faults.specs.declared.FieldFault.{FieldFault}
+use Rattle.faults.specs.declared.LineFault.{LineFault}
+use Rattle.faults.specs.Faults.{textOf, nextField}
 use Rattle.texts.specs.Numbers.{isNumber, decimal, numeral, someOf, only, numeralOrDash, inLine, numberIn, numberOrDashIn}
 use Rattle.texts.specs.Rules.{andThen}
 

@@ -6,13 +6,13 @@ use Prim.Native.Nat.{ℕ, _+_}
 use native.Mathlib.Omega.{arith}
 use Rattle.std.specs.declared.result.Result.{Result}
 use Rattle.std.specs.declared.result.Result.the-variants.{Ok, Err}
-use Rattle.texts.specs.declared.fault.Spot.{Spot}
-use Rattle.texts.specs.declared.fault.LineWrong.the-variants.{Unended}
-use Rattle.texts.specs.declared.fault.LineFault.{LineFault}
-use Rattle.texts.specs.declared.fault.Cause.the-variants.{Line}
+use Rattle.faults.specs.declared.Spot.{Spot}
+use Rattle.faults.specs.declared.LineWrong.the-variants.{Unended}
+use Rattle.faults.specs.declared.LineFault.{LineFault}
+use Rattle.faults.specs.declared.Cause.the-variants.{Line}
 use Rattle.texts.specs.declared.reader.Reader.{Reader}
 use Rattle.texts.specs.Cut.{Row}
-use Rattle.texts.specs.Faults.{spot, lineFault, textOf, faultIn, inText}
+use Rattle.faults.specs.Faults.{spot, lineFault, textOf, faultIn, inText}
 use Rattle.texts.specs.Means.{rowsLeft, fieldsLeft, spotOf, NewLine}
 use Rattle.texts.specs.Rules.{Kept, andThen}
 use Rattle.texts.specs.Rows.{Grammar, before, readRows, stateAfter}

@@ -13,9 +13,9 @@ use Rattle.std.specs.Text.{asciiDigit}
 use Rattle.std.specs.declared.result.Result.the-variants.{Ok, Err}
 use Rattle.std.proofs.shelf.Lists.{at-drop-more, at-drop-all}
 use Rattle.std.proofs.shelf.Tests.{le-leb, lt-leb, and-from, and-left, and-right, cond-true, cond-false}
-use Rattle.texts.specs.declared.fault.FieldWrong.the-variants.{NotNumber, AboveBound}
-use Rattle.texts.specs.declared.fault.Spot.{Spot}
-use Rattle.texts.specs.Faults.{fieldFault}
+use Rattle.faults.specs.declared.FieldWrong.the-variants.{NotNumber, AboveBound}
+use Rattle.faults.specs.declared.Spot.{Spot}
+use Rattle.faults.specs.Faults.{fieldFault}
 use Rattle.texts.specs.Numbers.{decimal, decimalAfter, isNumber, numeral}
 
 pub digits-more : (xs : List ℕ) (i : ℕ) → i < length xs → 48 ≤ getD xs i 0 → getD xs i 0 ≤ 57 → allDigits (drop i xs) ≡ allDigits (drop (i + 1) xs)

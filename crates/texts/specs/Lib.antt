@@ -1,4 +1,3 @@
-pub mod Faults
 pub mod Cut
 pub mod Numbers
 pub mod Tokens

@@ -5,14 +5,14 @@ use mathlib.Core.List.{List, [], _∷_}
 use Prim.Native.Nat.{ℕ, _+_, _<_}
 use lib.ListN.{length, take, drop}
 use Rattle.texts.specs.declared.reader.Reader.{Reader}
-use Rattle.texts.specs.declared.fault.Spot.{Spot}
+use Rattle.faults.specs.declared.Spot.{Spot}
 use Rattle.std.specs.declared.option.Option.{Option}
 use Rattle.std.specs.declared.option.Option.the-variants.{Some, None}
 use Rattle.std.specs.declared.result.Result.{Result}
 use Rattle.std.specs.declared.result.Result.the-variants.{Ok, Err}
-use Rattle.texts.specs.declared.fault.LineFault.{LineFault}
-use Rattle.texts.specs.declared.fault.LineWrong.the-variants.{Unended}
-use Rattle.texts.specs.Faults.{spot, nextField, lineFault}
+use Rattle.faults.specs.declared.LineFault.{LineFault}
+use Rattle.faults.specs.declared.LineWrong.the-variants.{Unended}
+use Rattle.faults.specs.Faults.{spot, nextField, lineFault}
 use Rattle.texts.specs.Cut.{Row, rows, fieldsFrom}
 
 -- the rows that follow the line at hand

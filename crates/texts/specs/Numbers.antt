@@ -7,15 +7,15 @@ use lib.ListN.{length, getD}
 use Rattle.std.specs.shelf.Text.{allDigits}
 use Rattle.std.specs.declared.result.Result.{Result}
 use Rattle.std.specs.declared.result.Result.the-variants.{Ok, Err}
-use Rattle.texts.specs.declared.fault.FieldWrong.the-variants.{NotNumber, AboveBound}
-use Rattle.texts.specs.declared.fault.FieldFault.{FieldFault}
-use Rattle.texts.specs.declared.fault.Spot.{Spot}
-use Rattle.texts.specs.declared.fault.LineFault.{LineFault}
-use Rattle.texts.specs.declared.fault.LineFault.the-variants.{Field}
-use Rattle.texts.specs.declared.fault.LineWrong.the-variants.{FieldCount}
+use Rattle.faults.specs.declared.FieldWrong.the-variants.{NotNumber, AboveBound}
+use Rattle.faults.specs.declared.FieldFault.{FieldFault}
+use Rattle.faults.specs.declared.Spot.{Spot}
+use Rattle.faults.specs.declared.LineFault.{LineFault}
+use Rattle.faults.specs.declared.LineFault.the-variants.{Field}
+use Rattle.faults.specs.declared.LineWrong.the-variants.{FieldCount}
 use Rattle.std.specs.declared.option.Option.{Option}
 use Rattle.std.specs.declared.option.Option.the-variants.{Some, None}
-use Rattle.texts.specs.Faults.{fieldFault, lineFault, nextField}
+use Rattle.faults.specs.Faults.{fieldFault, lineFault, nextField}
 
 -- the value of decimal digits that follow the number n
 abbrev pub decimalAfter : ℕ → List ℕ → ℕ

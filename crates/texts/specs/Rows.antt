@@ -7,15 +7,15 @@ use lib.Dec.{leb}
 use lib.ListN.{length}
 use Rattle.std.specs.declared.result.Result.{Result}
 use Rattle.std.specs.declared.result.Result.the-variants.{Ok, Err}
-use Rattle.texts.specs.declared.fault.Text.{Text}
-use Rattle.texts.specs.declared.fault.Spot.{Spot}
-use Rattle.texts.specs.declared.fault.LineWrong.the-variants.{Unended}
-use Rattle.texts.specs.declared.fault.TextWrong.the-variants.{TooLong}
-use Rattle.texts.specs.declared.fault.LineFault.{LineFault}
-use Rattle.texts.specs.declared.fault.Cause.the-variants.{Whole, Line}
-use Rattle.texts.specs.declared.fault.TextFault.{TextFault}
+use Rattle.faults.specs.declared.Text.{Text}
+use Rattle.faults.specs.declared.Spot.{Spot}
+use Rattle.faults.specs.declared.LineWrong.the-variants.{Unended}
+use Rattle.faults.specs.declared.TextWrong.the-variants.{TooLong}
+use Rattle.faults.specs.declared.LineFault.{LineFault}
+use Rattle.faults.specs.declared.Cause.the-variants.{Whole, Line}
+use Rattle.faults.specs.declared.TextFault.{TextFault}
 use Rattle.texts.specs.Cut.{Row, rows}
-use Rattle.texts.specs.Faults.{spot, lineFault, faultIn}
+use Rattle.faults.specs.Faults.{spot, lineFault, faultIn}
 use Rattle.texts.specs.Rules.{andThen}
 
 -- an entry before those that follow it, unless one of them is refused

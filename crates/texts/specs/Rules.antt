@@ -7,13 +7,13 @@ use Rattle.std.specs.declared.option.Option.{Option}
 use Rattle.std.specs.declared.option.Option.the-variants.{Some, None}
 use Rattle.std.specs.declared.result.Result.{Result}
 use Rattle.std.specs.declared.result.Result.the-variants.{Ok, Err}
-use Rattle.texts.specs.declared.fault.FieldWrong.{FieldWrong}
-use Rattle.texts.specs.declared.fault.LineWrong.{LineWrong}
-use Rattle.texts.specs.declared.fault.LineFault.{LineFault}
-use Rattle.texts.specs.declared.fault.LineFault.the-variants.{Field}
-use Rattle.texts.specs.declared.fault.Spot.{Spot}
+use Rattle.faults.specs.declared.FieldWrong.{FieldWrong}
+use Rattle.faults.specs.declared.LineWrong.{LineWrong}
+use Rattle.faults.specs.declared.LineFault.{LineFault}
+use Rattle.faults.specs.declared.LineFault.the-variants.{Field}
+use Rattle.faults.specs.declared.Spot.{Spot}
 use Rattle.texts.specs.declared.reader.Reader.{Reader}
-use Rattle.texts.specs.Faults.{spot, fieldFault, lineFault}
+use Rattle.faults.specs.Faults.{spot, fieldFault, lineFault}
 use Rattle.texts.specs.Means.{rowsLeft}
 
 -- go on with what was read, unless the line is refused

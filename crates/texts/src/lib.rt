@@ -1,3 +1,2 @@
-pub mod fault;
 pub mod number;
 pub mod reader;

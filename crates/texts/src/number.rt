@@ -2,9 +2,9 @@ ghost use mathlib.Core.Path.{_≡_};
 ghost use Prim.Native.Nat.{_≤_};
 ghost use Rattle.std.specs.Vec.{made};
 ghost use Rattle.texts.specs.Numbers.{numeral};
-use crate::fault::FieldFault;
-use crate::fault::FieldWrong;
-use crate::fault::Spot;
+use faults::FieldFault;
+use faults::FieldWrong;
+use faults::Spot;
 
 // The number in the field at a spot: one to five digits, at most `bound`. The running value is carried in 64 bits.
 pub fn number(part: &[u8], bound: u64, at: Spot) -> Result<u64, FieldFault>

@@ -1,7 +1,7 @@
 ghost use Prim.Native.Nat.{_+_, _≤_};
 ghost use denote.Ref.{now as at};
 ghost use lib.ListN.{length};
-use crate::fault::Text;
+use faults::Text;
 
 mod steps;
 

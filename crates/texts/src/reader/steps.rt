@@ -7,20 +7,20 @@ ghost use Rattle.std.specs.Options.{Cases as BySome};
 ghost use Rattle.std.specs.Slices.{found};
 ghost use Rattle.texts.specs.Cut.{before, rows, fields, fieldsFrom};
 ghost use Rattle.std.specs.Vec.{made};
-ghost use Rattle.texts.specs.declared.fault.LineFault.the-variants.{Field};
-ghost use Rattle.texts.specs.Faults.{spot as spotAt, lineFault, fieldFault};
+ghost use Rattle.faults.specs.declared.LineFault.the-variants.{Field};
+ghost use Rattle.faults.specs.Faults.{spot as spotAt, lineFault, fieldFault};
 ghost use Rattle.texts.specs.Numbers.{letterIn, numberIn, numberOrDashIn};
 ghost use Rattle.texts.specs.Means.{rowsLeft, fieldsLeft, spotOf, LineStep, FieldStep, Moved};
 ghost use Rattle.texts.specs.Tokens.{partOf, startOf, Sorted};
-use crate::fault::FieldWrong;
-use crate::fault::LineFault;
-use crate::fault::LineFromField;
-use crate::fault::LineWrong;
-use crate::fault::Spot;
-use crate::fault::Text;
 use crate::number::number;
 use crate::reader::Reader;
 use crate::reader::Token;
+use faults::FieldWrong;
+use faults::LineFault;
+use faults::LineFromField;
+use faults::LineWrong;
+use faults::Spot;
+use faults::Text;
 
 // Where the first `b` at or after `from` stands, or the end.
 fn find(a: &[u8], from: usize, b: u8) -> usize

@@ -2,7 +2,7 @@ use mathlib.Core.Path.{_≡_}
 use Prim.Native.Nat.{_+_}
 use lib.ListN.{length}
 use Rattle.jobs.specs.Jobs.{drafted}
-use Rattle.texts.specs.declared.fault.Text.the-variants.{Job}
+use Rattle.faults.specs.declared.Text.the-variants.{Job}
 use Rattle.texts.specs.Cut.{rows}
 use Rattle.texts.specs.Means.{rowsLeft}
 use Rattle.texts.specs.Rows.{readRows}

@@ -1,6 +1,6 @@
 ghost use mathlib.Core.Path.{_≡_};
-ghost use Rattle.texts.specs.declared.fault.LineFault.the-variants.{Field};
-ghost use Rattle.texts.specs.Faults.{textOf, inText, numberOfField, numberOfLine, numberOfText, numberInLine, spotInLine, numberOfCause, lineOfCause, fieldOfCause, causeOf, numberOf, lineOf, fieldOf, fieldFault, spot as spotAt};
+ghost use Rattle.faults.specs.declared.LineFault.the-variants.{Field};
+ghost use Rattle.faults.specs.Faults.{textOf, inText, numberOfField, numberOfLine, numberOfText, numberInLine, spotInLine, numberOfCause, lineOfCause, fieldOfCause, causeOf, numberOf, lineOf, fieldOf, fieldFault, spot as spotAt};
 
 // Which of the two texts: a street book or a job.
 #[derive(Clone, Copy)]

@@ -1,21 +1,21 @@
 -- What the faults of a text say: a number, a line and a field.
 use Prim.Native.Nat.{ℕ, _+_}
-use Rattle.texts.specs.declared.fault.Text.{Text}
-use Rattle.texts.specs.declared.fault.Text.the-variants.{Book as OfBook, Job as OfJob}
-use Rattle.texts.specs.declared.fault.Spot.{Spot}
-use Rattle.texts.specs.declared.fault.FieldWrong.{FieldWrong}
-use Rattle.texts.specs.declared.fault.FieldWrong.the-variants.{NotLetter, NotNumber, AboveBound, NotNextPlace, UntoldPlace, SameEnds, KindZero, NotNextStop, WrongParent, WrongLink}
-use Rattle.texts.specs.declared.fault.LineWrong.{LineWrong}
-use Rattle.texts.specs.declared.fault.LineWrong.the-variants.{Unended, FieldCount, Full}
-use Rattle.texts.specs.declared.fault.TextWrong.{TextWrong}
-use Rattle.texts.specs.declared.fault.TextWrong.the-variants.{TooLong, NoLines}
-use Rattle.texts.specs.declared.fault.FieldFault.{FieldFault}
-use Rattle.texts.specs.declared.fault.LineFault.{LineFault}
-use Rattle.texts.specs.declared.fault.LineFault.the-variants.{Field, Whole as WholeLine}
-use Rattle.texts.specs.declared.fault.Cause.{Cause}
-use Rattle.texts.specs.declared.fault.Cause.the-variants.{Whole as WholeText, Line}
-use Rattle.texts.specs.declared.fault.TextFault.{TextFault}
-use Rattle.texts.specs.declared.fault.TextFault.the-variants.{Book, Job}
+use Rattle.faults.specs.declared.Text.{Text}
+use Rattle.faults.specs.declared.Text.the-variants.{Book as OfBook, Job as OfJob}
+use Rattle.faults.specs.declared.Spot.{Spot}
+use Rattle.faults.specs.declared.FieldWrong.{FieldWrong}
+use Rattle.faults.specs.declared.FieldWrong.the-variants.{NotLetter, NotNumber, AboveBound, NotNextPlace, UntoldPlace, SameEnds, KindZero, NotNextStop, WrongParent, WrongLink}
+use Rattle.faults.specs.declared.LineWrong.{LineWrong}
+use Rattle.faults.specs.declared.LineWrong.the-variants.{Unended, FieldCount, Full}
+use Rattle.faults.specs.declared.TextWrong.{TextWrong}
+use Rattle.faults.specs.declared.TextWrong.the-variants.{TooLong, NoLines}
+use Rattle.faults.specs.declared.FieldFault.{FieldFault}
+use Rattle.faults.specs.declared.LineFault.{LineFault}
+use Rattle.faults.specs.declared.LineFault.the-variants.{Field, Whole as WholeLine}
+use Rattle.faults.specs.declared.Cause.{Cause}
+use Rattle.faults.specs.declared.Cause.the-variants.{Whole as WholeText, Line}
+use Rattle.faults.specs.declared.TextFault.{TextFault}
+use Rattle.faults.specs.declared.TextFault.the-variants.{Book, Job}
 
 -- the number that stands for each fault
 abbrev pub numberOfField : FieldWrong → ℕ
