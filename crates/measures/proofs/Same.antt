@@ -8,7 +8,7 @@ use Rattle.measures.specs.declared.values.LongestValue.{LongestValue}
 use Rattle.measures.specs.declared.values.ClimbValue.{ClimbValue}
 
 -- a number's bound has one proof
-same-fit : {m n : ℕ} (e : m ≡ n) (p : m ≤ 4294967295) (q : n ≤ 4294967295) → PathP (λ j. e j ≤ 4294967295) p q
+pub same-fit : {m n : ℕ} (e : m ≡ n) (p : m ≤ 4294967295) (q : n ≤ 4294967295) → PathP (λ j. e j ≤ 4294967295) p q
 same-fit e p q = isProp→PathP (λ k. e k ≤ 4294967295) (λ k. le-prop) p q
 
 pub same-time : (a b : TimeValue) → a .seconds ≡ b .seconds → a ≡ b

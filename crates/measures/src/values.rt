@@ -26,10 +26,10 @@ pub struct ClimbValue {
     ghost fits: { (climb ≤ 4294967295) × (seconds ≤ 4294967295) },
 }
 
-// The greatest number in a value.
+// The top: no number in a value is above it.
 pub const TOP: u64 = 4294967295;
 
-// A number held at the greatest.
+// A number held at the top.
 pub fn held(n: u64) -> u32
     ensures { λ r. ⌜ r ≡ min n 4294967295 ⌝ }
 {

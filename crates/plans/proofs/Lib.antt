@@ -1,0 +1,4 @@
+pub mod Closure
+pub mod Rides
+pub mod Scores
+pub mod Orders

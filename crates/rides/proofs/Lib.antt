@@ -1,0 +1,3 @@
+pub mod CellWrites
+pub mod Rounding
+pub mod Starting

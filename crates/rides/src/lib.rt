@@ -1,0 +1,4 @@
+pub mod cells;
+pub mod closure;
+pub mod pairs;
+pub mod table;
