@@ -5,6 +5,7 @@ ghost use Rattle.std.specs.Results.{Cases};
 ghost use Rattle.std.specs.Vec.{made};
 ghost use Rattle.texts.specs.Cut.{rows};
 ghost use Rattle.texts.specs.Rows.{readRows, stateAfter};
+ghost use Rattle.books.specs.Sensible.{Sensible};
 ghost use Rattle.books.specs.Books.{counts as countsOf, bookLines, bookOf, finished, readBook, roomIn, tally, over};
 use crate::line::Counts;
 use crate::line::Entry;
@@ -44,6 +45,7 @@ fn judge(text: &[u8], room: Room) -> Result<Counts, LineFault>
 fn judge_book(text: &[u8], room: Room) -> Result<Counts, TextFault>
     ensures within { λ r. ⌜ made r (λ c. (c .places ≤ room .kinds) × (c .legs ≤ room .legs)) ⌝ }
     ensures value { λ r. ⌜ r ≡ tally (readBook room (now (text .entry))) ⌝ }
+    ensures sensible { λ _. ⌜ (room .kinds ≤ 64 → room .legs ≤ 4096 → made (readBook room (now (text .entry))) Sensible) ⌝ }
 {
     if text.len() > MOST_BYTES {
         return Err(TextFault::Book(Cause::Whole(TextWrong::TooLong)));
@@ -78,6 +80,7 @@ fn fill(text: &[u8], room: Room, kinds: &mut [u8], legs: &mut [LegRecord]) -> Re
 // refused text has written nothing.
 pub fn read_book(text: &[u8], kinds: &mut [u8], legs: &mut [LegRecord]) -> Result<Counts, TextFault>
     ensures value { λ r. ⌜ r ≡ tally (readBook (roomIn (length (now (kinds .entry))) (length (now (legs .entry)))) (now (text .entry))) ⌝ }
+    ensures sensible { λ _. ⌜ made (readBook (roomIn (length (now (kinds .entry))) (length (now (legs .entry)))) (now (text .entry))) Sensible ⌝ }
     ensures within { λ r. ⌜ made r (λ c. (c .places ≤ 64) × (c .places ≤ length (now (kinds .entry))) × (c .legs ≤ length (now (legs .entry)))) ⌝ }
     ensures written { λ _. ⌜ Cases (readBook (roomIn (length (now (kinds .entry))) (length (now (legs .entry)))) (now (text .entry))) (λ b. (now (kinds .exit) ≡ over (b .kinds) (now (kinds .entry))) × (now (legs .exit) ≡ over (b .legs) (now (legs .entry)))) (λ _. (now (kinds .exit) ≡ now (kinds .entry)) × (now (legs .exit) ≡ now (legs .entry))) ⌝ }
 {
