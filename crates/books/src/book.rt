@@ -20,10 +20,8 @@ use faults::TextWrong;
 use streets::legs::LegRecord;
 use streets::list::MOST_PLACES;
 use streets::list::MOST_RECORDS;
+use texts::MOST_BYTES;
 use texts::reader::Reader;
-
-// The most bytes that a text may have.
-pub const MOST_BYTES: usize = 65535;
 
 // The first pass: how much the lines tell, or the first refused line's fault. Nothing is written.
 fn judge(text: &[u8], room: Room) -> Result<Counts, LineFault>

@@ -1,9 +1,9 @@
 -- The lines that the console prints.
 use mathlib.Core.Bool.{cond}
-use mathlib.Core.List.{List, _++_}
+use mathlib.Core.List.{List}
 use Prim.Native.Nat.{ℕ}
 use lib.Dec.{ltb}
-use lib.ListN.{length, take, drop}
+use lib.ListN.{length, take}
 use Rattle.std.specs.declared.result.Result.{Result}
 use Rattle.std.specs.declared.result.Result.the-variants.{Ok, Err}
 use Rattle.console.specs.declared.line.Line.{Line}
@@ -21,7 +21,3 @@ numberOf NoRoom = 50
 -- a line's length, refused where the caller has fewer than 96 bytes
 abbrev pub printed : ℕ → List ℕ → Result ℕ LineRefusal
 printed room bytes = cond (ltb room 96) (Err NoRoom) (Ok (length bytes))
-
--- xs over the front of ys, whose rest stays
-abbrev pub over : List ℕ → List ℕ → List ℕ
-over xs ys = xs ++ drop (length xs) ys

@@ -1,7 +1,8 @@
 ghost use mathlib.Core.Path.{_≡_};
 ghost use lib.ListN.{length};
 ghost use Rattle.std.specs.Results.{Cases};
-ghost use Rattle.console.specs.Lines.{shown, printed, over};
+ghost use Rattle.books.specs.Books.{over};
+ghost use Rattle.console.specs.Lines.{shown, printed};
 ghost use Rattle.console.specs.Accounts.{refusalLine, totalsLine, stopLine};
 use crate::line::Line;
 use crate::line::build::LineRefusal;

@@ -13,10 +13,8 @@ use faults::TextFromLine;
 use faults::TextWrong;
 use jobs::job::Draft;
 use jobs::job::Job;
+use texts::MOST_BYTES;
 use texts::reader::Reader;
-
-// The most bytes that a text may have.
-const MOST_BYTES: usize = 65535;
 
 // The stops that the lines tell, or the first refused line's fault.
 fn read_rows(text: &[u8]) -> Result<Draft, LineFault>

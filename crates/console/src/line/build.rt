@@ -4,7 +4,8 @@ ghost use Prim.Native.Nat.{_+_, _≤_, _<_};
 ghost use lib.ListN.{length};
 ghost use Rattle.std.specs.Results.{Cases};
 ghost use Rattle.std.specs.Written.{decimal};
-ghost use Rattle.console.specs.Lines.{shown, numberOf, printed, over};
+ghost use Rattle.books.specs.Books.{over};
+ghost use Rattle.console.specs.Lines.{shown, numberOf, printed};
 use super::Line;
 
 // The room that a caller gives for a line.
