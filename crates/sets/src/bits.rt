@@ -6,7 +6,7 @@ ghost use lib.Dec.{eqb};
 ghost use Rattle.sets.specs.Sets.{hasBit, countTo, Least};
 
 // Whether a bit is set.
-pub fn bit_of(number: u64, place: usize) -> bool
+pub(crate) fn bit_of(number: u64, place: usize) -> bool
     requires { ⌜ place < 64 ⌝ }
     ensures { λ r. ⌜ r ≡ hasBit number place ⌝ }
 {
@@ -14,7 +14,7 @@ pub fn bit_of(number: u64, place: usize) -> bool
 }
 
 // The number with one more bit set.
-pub fn with_bit(number: u64, place: usize) -> u64
+pub(crate) fn with_bit(number: u64, place: usize) -> u64
     requires { ⌜ place < 64 ⌝ }
     ensures { λ r. ⌜ ((q : ℕ) → hasBit r q ≡ (hasBit number q || eqb q place)) ⌝ }
 {
@@ -22,14 +22,14 @@ pub fn with_bit(number: u64, place: usize) -> u64
 }
 
 // How many bits are set.
-pub fn count_bits(number: u64) -> u32
+pub(crate) fn count_bits(number: u64) -> u32
     ensures { λ r. ⌜ r ≡ countTo (hasBit number) 64 ⌝ }
 {
     number.count_ones()
 }
 
 // The lowest bit that is set, 64 where none is.
-pub fn lowest_bit(number: u64) -> u32
+pub(crate) fn lowest_bit(number: u64) -> u32
     ensures { λ r. ⌜ Least (hasBit number) 64 r ⌝ }
 {
     number.trailing_zeros()
