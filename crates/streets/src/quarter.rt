@@ -1,6 +1,6 @@
 ghost use Prim.Native.Nat.{_*_, _≤_};
 
-mod grid;
+pub mod grid;
 
 // A quarter: a grid of crossings, each a place, with legs to its neighbours.
 #[derive(Clone, Copy)]
