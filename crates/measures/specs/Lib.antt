@@ -3,3 +3,4 @@ pub mod Laws
 pub mod Time
 pub mod Longest
 pub mod Climb
+pub mod Optional

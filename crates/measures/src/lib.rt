@@ -4,6 +4,7 @@ ghost use Rattle.measures.specs.Meaning.{MeasureMeaning};
 
 pub mod climb;
 pub mod longest;
+pub mod optional;
 pub mod shown;
 pub mod time;
 pub mod values;

@@ -4,6 +4,7 @@ use mathlib.Core.Bool.{Bool, true, false, cond}
 use mathlib.Core.Logic.{_⊎_, inl, inr, ⊎-elim}
 use Prim.Native.Nat.{ℕ, _+_, _<_}
 use native.Mathlib.Omega.{arith}
+use Rattle.measures.specs.Optional.{both}
 use Rattle.std.specs.declared.option.Option.{Option}
 use Rattle.std.specs.declared.option.Option.the-variants.{Some, None}
 use Rattle.std.proofs.shelf.Tests.{both-ways, cases-lt}
@@ -12,7 +13,7 @@ use Rattle.measures.specs.Laws.{Laws}
 use Rattle.streets.specs.Meaning.{StreetMeaning}
 use Rattle.plans.specs.Walks.{direct}
 use Rattle.plans.specs.Between.{Via, leg, onward, Reaches, Best}
-use Rattle.plans.specs.Computed.{both, lesser}
+use Rattle.plans.specs.Computed.{lesser}
 
 pub none-some : {V : Type 0} {x : V} → None ≡ Some x → ⊥
 none-some e = let z : _≡_ {A = ℕ} 0 1 = cc in omega arith

@@ -5,6 +5,7 @@ use mathlib.Core.Logic.{_⊎_, inl, inr, ⊎-elim}
 use Prim.Native.Nat.{ℕ, zero, suc, _<_, _≤_}
 use native.Mathlib.Omega.{arith}
 use lib.Dec.{ltb}
+use Rattle.measures.specs.Optional.{both}
 use Rattle.std.specs.declared.option.Option.{Option}
 use Rattle.std.specs.declared.option.Option.the-variants.{Some, None}
 use Rattle.std.proofs.shelf.Tests.{cases-lt, cond-true, and-parts, and-from, ltb-true, lt-ltb}
@@ -14,7 +15,7 @@ use Rattle.streets.specs.Meaning.{StreetMeaning, Sound}
 use Rattle.plans.specs.Walks.{direct, Ride, RideOf}
 use Rattle.plans.specs.Job.{JobMeaning, Tree}
 use Rattle.plans.specs.Plans.{fits, LinkValue, StopLink, Plan, linksJoined, Score, Same}
-use Rattle.plans.specs.Computed.{both, rideFrom, linkFrom, stopValue, total, scoreFrom}
+use Rattle.plans.specs.Computed.{rideFrom, linkFrom, stopValue, total, scoreFrom}
 use Rattle.plans.specs.Laws.{RideLaws, ScoreLaws}
 use Rattle.plans.proofs.Closure.{none-some}
 use Rattle.plans.proofs.Rides.{ride-laws}

@@ -2,6 +2,7 @@
 use mathlib.Core.Bool.{Bool, cond, _&&_}
 use Prim.Native.Nat.{ℕ, zero, suc}
 use lib.Dec.{ltb}
+use Rattle.measures.specs.Optional.{both}
 use Rattle.std.specs.declared.option.Option.{Option}
 use Rattle.std.specs.declared.option.Option.the-variants.{Some, None}
 use Rattle.measures.specs.Meaning.{MeasureMeaning}
@@ -9,12 +10,6 @@ use Rattle.streets.specs.Meaning.{StreetMeaning}
 use Rattle.plans.specs.Walks.{direct}
 use Rattle.plans.specs.Job.{JobMeaning}
 use Rattle.plans.specs.Plans.{fits}
-
--- the join of two values that may be missing
-abbrev pub both : {V : Type 0} → (V → V → V) → Option V → Option V → Option V
-both joined (Some x) (Some y) = Some (joined x y)
-both joined (Some x) None = None
-both joined None o = None
 
 -- the lesser of two values that may be missing, at equals the first
 abbrev pub lesser : {V : Type 0} → (V → V → Bool) → Option V → Option V → Option V

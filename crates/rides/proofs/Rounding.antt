@@ -1,16 +1,17 @@
 -- A round of the closure, pair by pair.
-use mathlib.Core.Path.{_≡_, refl, sym, ap, _∙_, subst}
+use mathlib.Core.Path.{_≡_, sym, _∙_, subst}
 use mathlib.Core.Logic.{_⊎_, inl, inr, ⊎-elim}
 use Prim.Native.Nat.{ℕ, _+_, _<_}
 use native.Mathlib.Omega.{arith}
+use Rattle.measures.specs.Optional.{both}
 use Rattle.std.specs.declared.option.Option.{Option}
 use Rattle.std.specs.declared.option.Option.the-variants.{Some, None}
 use Rattle.std.proofs.shelf.Tests.{cases-lt, cases-eq}
 use Rattle.measures.specs.Meaning.{MeasureMeaning}
 use Rattle.measures.specs.Laws.{Laws}
 use Rattle.streets.specs.Meaning.{StreetMeaning}
-use Rattle.plans.specs.Between.{Via, Reaches, Best}
-use Rattle.plans.specs.Computed.{both, lesser}
+use Rattle.plans.specs.Between.{Via, Reaches}
+use Rattle.plans.specs.Computed.{lesser}
 use Rattle.plans.proofs.Closure.{widen, step-walk, step-below}
 use Rattle.rides.specs.Rounds.{Passed, Mid, Full}
 

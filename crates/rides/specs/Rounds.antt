@@ -1,40 +1,55 @@
 -- How the table is filled: what it holds before, within and after a round of the closure.
 use mathlib.Core.Path.{_≡_}
-use mathlib.Core.List.{List, map}
+use mathlib.Core.List.{List}
 use mathlib.Core.Logic.{_⊎_}
 use Prim.Native.Nat.{ℕ, _+_, _*_, _<_}
 use lib.ListN.{drop}
 use Rattle.std.specs.declared.option.Option.{Option}
-use Rattle.std.specs.declared.option.Option.the-variants.{Some, None}
+use Rattle.std.specs.declared.option.Option.the-variants.{Some}
 use Rattle.measures.specs.Meaning.{MeasureMeaning}
 use Rattle.streets.specs.Meaning.{StreetMeaning}
 use Rattle.plans.specs.Walks.{direct}
 use Rattle.plans.specs.Between.{Via, Reaches, Best}
-use Rattle.plans.specs.Computed.{lesser}
-use Rattle.rides.specs.Cells.{pairIn, legIn, rideIn}
-use Rattle.rides.specs.declared.cells.Cell.{Cell}
+use Rattle.cells.specs.Tables.{legIn, rideIn, kindIn}
+use Rattle.cells.specs.declared.cell.Cell.{Cell}
 
 -- what filling leaves as it was: the cells behind the table
-abbrev pub Behind : {V : Type 0} → ℕ → List (Cell V) → List (Cell V) → Type 0
+abbrev pub Behind : {M V : Type 0} → ℕ → List (Cell M V) → List (Cell M V) → Type 0
 Behind n old new = drop (n * n) new ≡ drop (n * n) old
 
--- and what closing leaves: the legs too
-abbrev pub Kept : {V : Type 0} → ℕ → List (Cell V) → List (Cell V) → Type 0
-Kept n old new = (map (λ c. c .leg) new ≡ map (λ c. c .leg) old) × Behind n old new
+-- the legs are as they were
+abbrev pub SameLegs : {M V : Type 0} → ℕ → List (Cell M V) → List (Cell M V) → Type 0
+SameLegs n old new = (a b : ℕ) → legIn new n a b ≡ legIn old n a b
 
--- a field of the pair (i, j) holds v, and of every other pair what it held
-pub record Written {V : Type 0} (field : Cell V → Option V) (n i j : ℕ) (v : Option V) (old new : List (Cell V)) : Type 0 where
-  pub there : pairIn field new n i j ≡ v
-  pub others : (a b : ℕ) → a < n → b < n → (a ≡ i → b ≡ j → ⊥) → pairIn field new n a b ≡ pairIn field old n a b
+-- the kinds are as they were
+abbrev pub SameKinds : {M V : Type 0} → ℕ → List (Cell M V) → List (Cell M V) → Type 0
+SameKinds n old new = (p : ℕ) → kindIn new n p ≡ kindIn old n p
+
+-- only rides have changed: the legs, the kinds and the cells behind the table are as they were
+abbrev pub RidesOnly : {M V : Type 0} → ℕ → List (Cell M V) → List (Cell M V) → Type 0
+RidesOnly n old new = SameLegs n old new × SameKinds n old new × Behind n old new
+
+-- in a view of cells the pair (i, j) has v, and every other pair what it had
+pub record Written {M V X : Type 0} (view : List (Cell M V) → ℕ → ℕ → ℕ → X) (n i j : ℕ) (v : X) (old new : List (Cell M V)) : Type 0 where
+  pub there : view new n i j ≡ v
+  pub others : (a b : ℕ) → a < n → b < n → (a ≡ i → b ≡ j → ⊥) → view new n a b ≡ view old n a b
+
+-- place p has this kind, and every other place the one that it had; legs and rides are as they were
+pub record KindWritten {M V : Type 0} (n p kind : ℕ) (old new : List (Cell M V)) : Type 0 where
+  pub there : kindIn new n p ≡ kind
+  pub others : (q : ℕ) → q < n → (q ≡ p → ⊥) → kindIn new n q ≡ kindIn old n q
+  pub legs : SameLegs n old new
+  pub rides : (a b : ℕ) → rideIn new n a b ≡ rideIn old n a b
 
 -- row by row, the pair (a, b) comes before (i, j)
 abbrev pub Passed : ℕ → ℕ → ℕ → ℕ → Type 0
 Passed i j a b = (a < i) ⊎ ((a ≡ i) × (b < j))
 
--- the pairs before (i, j) hold the leg's value, as leg and as ride
-pub record Started {V : Type 0} (m : MeasureMeaning V) (s : StreetMeaning) (n i j : ℕ) (cells : List (Cell V)) : Type 0 where
+-- the pairs before (i, j) hold the leg's value, as leg and as ride, and the places before i their kind
+pub record Started {M V : Type 0} (m : MeasureMeaning V) (s : StreetMeaning) (n i j : ℕ) (cells : List (Cell M V)) : Type 0 where
   pub legs : (a b : ℕ) → a < n → b < n → Passed i j a b → legIn cells n a b ≡ direct m s a b
   pub rides : (a b : ℕ) → a < n → b < n → Passed i j a b → rideIn cells n a b ≡ direct m s a b
+  pub kinds : (p : ℕ) → p < i → kindIn cells n p ≡ s .kind p
 
 -- every entry of a table D is the best by places below k
 abbrev pub Full : {V : Type 0} → MeasureMeaning V → StreetMeaning → ℕ → ℕ → (ℕ → ℕ → Option V) → Type 0

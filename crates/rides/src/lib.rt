@@ -1,4 +1,3 @@
-pub mod cells;
 pub mod closure;
-pub mod pairs;
+mod pairs;
 pub mod table;

@@ -1,14 +1,15 @@
 ghost use mathlib.Core.Path.{_≡_};
 ghost use Prim.Native.Nat.{_+_, _*_, _≤_, _<_};
+ghost use lib.Dec.{ltb};
 ghost use lib.ListN.{length};
 ghost use Rattle.plans.specs.Walks.{direct};
-ghost use Rattle.rides.specs.Cells.{linkIn, Fills};
-ghost use Rattle.rides.specs.Rounds.{Written, Behind, Started};
-use crate::cells::Cell;
+ghost use Rattle.cells.specs.Tables.{legIn, rideIn};
+ghost use Rattle.rides.specs.Cells.{Fills};
+ghost use Rattle.rides.specs.Rounds.{Written, KindWritten, Behind, SameKinds, Started};
 use crate::closure::close;
-use crate::pairs::leg_at;
-use crate::pairs::ride_at;
+use crate::pairs::set_kind;
 use crate::pairs::set_pair;
+use cells::cell::Cell;
 use measures::Measure;
 use streets::street::Street;
 
@@ -31,23 +32,38 @@ fn leg_value<M: Measure, S: Street>(street: &S, a: usize, b: usize) -> Option<M:
 
 // What is known of a pair at the start: its leg, and as its ride that leg alone.
 fn start_pair<M: Measure, S: Street>(
-    cells: &mut [Cell<M::Value>],
+    cells: &mut [Cell<M, M::Value>],
     street: &S,
     n: usize,
     a: usize,
     b: usize,
 )
     requires { ⌜ (a < n) × (b < n) × (n ≤ 64) × (n * n ≤ length (now cells)) ⌝ }
-    ensures legs { λ _. ⌜ Written (λ c. c .leg) n a b (direct (M·Measure .meaning) (S·Street .meaning (now (street .entry))) a b) (now (cells .entry)) (now (cells .exit)) ⌝ }
-    ensures rides { λ _. ⌜ Written (λ c. c .ride) n a b (direct (M·Measure .meaning) (S·Street .meaning (now (street .entry))) a b) (now (cells .entry)) (now (cells .exit)) ⌝ }
+    ensures legs { λ _. ⌜ Written legIn n a b (direct (M·Measure .meaning) (S·Street .meaning (now (street .entry))) a b) (now (cells .entry)) (now (cells .exit)) ⌝ }
+    ensures rides { λ _. ⌜ Written rideIn n a b (direct (M·Measure .meaning) (S·Street .meaning (now (street .entry))) a b) (now (cells .entry)) (now (cells .exit)) ⌝ }
+    ensures kinds { λ _. ⌜ SameKinds n (now (cells .entry)) (now (cells .exit)) ⌝ }
     ensures behind { λ _. ⌜ Behind n (now (cells .entry)) (now (cells .exit)) ⌝ }
 {
     let value = leg_value::<M, S>(street, a, b);
     set_pair(cells, n, a, b, value, value);
 }
 
-// One row at the start.
-fn start_row<M: Measure, S: Street>(cells: &mut [Cell<M::Value>], street: &S, n: usize, a: usize)
+// The kind of a place.
+fn start_kind<M: Measure, S: Street>(
+    cells: &mut [Cell<M, M::Value>],
+    street: &S,
+    n: usize,
+    p: usize,
+)
+    requires { ⌜ (p < n) × (n ≤ 64) × (n * n ≤ length (now cells)) ⌝ }
+    ensures kind { λ _. ⌜ KindWritten n p (S·Street .meaning (now (street .entry)) .kind p) (now (cells .entry)) (now (cells .exit)) ⌝ }
+    ensures behind { λ _. ⌜ Behind n (now (cells .entry)) (now (cells .exit)) ⌝ }
+{
+    set_kind(cells, n, p, street.kind(p));
+}
+
+// One row at the start: the pairs from a, and the kind of a.
+fn start_row<M: Measure, S: Street>(cells: &mut [Cell<M, M::Value>], street: &S, n: usize, a: usize)
     requires { ⌜ (a < n) × (n ≤ 64) × (n * n ≤ length (now cells)) ⌝ }
     ensures started { λ _. ⌜ (Started (M·Measure .meaning) (S·Street .meaning (now (street .entry))) n a 0 (now (cells .entry)) → Started (M·Measure .meaning) (S·Street .meaning (now (street .entry))) n (a + 1) 0 (now (cells .exit))) ⌝ }
     ensures behind { λ _. ⌜ Behind n (now (cells .entry)) (now (cells .exit)) ⌝ }
@@ -55,10 +71,11 @@ fn start_row<M: Measure, S: Street>(cells: &mut [Cell<M::Value>], street: &S, n:
     for b in 0..n {
         start_pair::<M, S>(cells, street, n, a, b);
     }
+    start_kind::<M, S>(cells, street, n, a);
 }
 
 // All rows at the start.
-fn start<M: Measure, S: Street>(cells: &mut [Cell<M::Value>], street: &S, n: usize)
+fn start<M: Measure, S: Street>(cells: &mut [Cell<M, M::Value>], street: &S, n: usize)
     requires { ⌜ (n ≤ 64) × (n * n ≤ length (now cells)) ⌝ }
     ensures started { λ _. ⌜ Started (M·Measure .meaning) (S·Street .meaning (now (street .entry))) n n 0 (now (cells .exit)) ⌝ }
     ensures behind { λ _. ⌜ Behind n (now (cells .entry)) (now (cells .exit)) ⌝ }
@@ -68,28 +85,24 @@ fn start<M: Measure, S: Street>(cells: &mut [Cell<M::Value>], street: &S, n: usi
     }
 }
 
-// Fills the table of a street's legs and rides, n * n cells for n places, and answers n. With fewer cells it
-// answers none and writes nothing.
-pub fn fill<M: Measure, S: Street>(cells: &mut [Cell<M::Value>], street: &S) -> Option<usize>
+// Whether there are fewer cells than pairs of n places.
+fn lacks_room<M, V>(cells: &[Cell<M, V>], n: usize) -> bool
+    requires { ⌜ n * n ≤ 4096 ⌝ }
+    ensures { λ r. ⌜ r ≡ ltb (length (now (cells .entry))) (n * n) ⌝ }
+{
+    cells.len() < n * n
+}
+
+// Fills the table of a street's legs and rides, n * n cells for n places, with the kinds of the places, and answers n.
+// With fewer cells it answers none and writes nothing.
+pub fn fill<M: Measure, S: Street>(cells: &mut [Cell<M, M::Value>], street: &S) -> Option<usize>
     ensures { λ r. ⌜ Fills (M·Measure .meaning) (S·Street .meaning (now (street .entry))) r (now (cells .entry)) (now (cells .exit)) ⌝ }
 {
     let n = places_of(street);
-    if cells.len() < n * n {
+    if lacks_room(cells, n) {
         return None;
     }
     start::<M, S>(cells, street, n);
     close::<M>(cells, n);
     Some(n)
-}
-
-// The value of a link from a to b in a filled table: of a ride link the ride, of a direct one the leg's.
-pub fn link_at<V: Copy>(cells: &[Cell<V>], n: usize, rides: bool, a: usize, b: usize) -> Option<V>
-    requires { ⌜ (a < n) × (b < n) × (n ≤ 64) × (n * n ≤ length (now cells)) ⌝ }
-    ensures { λ r. ⌜ r ≡ linkIn (now (cells .entry)) n rides a b ⌝ }
-{
-    if rides {
-        ride_at(cells, n, a, b)
-    } else {
-        leg_at(cells, n, a, b)
-    }
 }

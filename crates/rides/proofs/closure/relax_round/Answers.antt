@@ -1,14 +1,14 @@
 use native.Mathlib.Omega.{arith}
 use mathlib.Core.Path.{_≡_, refl, subst}
 use Prim.Native.Nat.{ℕ}
-use Rattle.rides.specs.Cells.{rideIn}
+use Rattle.cells.specs.Tables.{rideIn}
 use Rattle.rides.proofs.CellWrites.{kept-then}
 use Rattle.rides.specs.Rounds.{Mid}
 use Rattle.rides.proofs.Rounding.{round-start, round-end}
 use Rattle.rides.proofs.closure.relax_round.Needs as need
 
 pub loop-i-holds : need.loop-i-holds
-loop-i-holds g c = (λ s full. round-start (g .M·Measure .meaning) (g .M·Measure·met .lawful .laws) s (c .args .n) (c .args .k) (c .pre .0) _ full, (refl, refl))
+loop-i-holds g c = (λ s full. round-start (g .M·Measure .meaning) (g .M·Measure·met .lawful .laws) s (c .args .n) (c .args .k) (c .pre .0) _ full, ((λ _ _. refl), (λ _. refl), refl))
 
 pub loop-i-again : need.loop-i-again
 loop-i-again g c = (

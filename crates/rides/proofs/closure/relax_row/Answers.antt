@@ -4,7 +4,7 @@ use Prim.Native.Nat.{ℕ}
 use Rattle.std.specs.declared.option.Option.{Option}
 use Rattle.std.specs.declared.option.Option.the-variants.{Some}
 use Rattle.plans.specs.Between.{Reaches}
-use Rattle.rides.specs.Cells.{rideIn}
+use Rattle.cells.specs.Tables.{rideIn}
 use Rattle.rides.specs.Rounds.{Mid}
 use Rattle.rides.proofs.CellWrites.{kept-then}
 use Rattle.rides.proofs.Rounding.{mid-step, row-end, row-skip}
@@ -13,7 +13,7 @@ use Rattle.rides.proofs.closure.relax_row.Needs as need
 pub returns-in-rest : need.returns-in-rest
 returns-in-rest g c = record {
   rides = λ s mid. row-skip (g .M·Measure .meaning) (g .M·Measure·met .lawful .laws) s (c .args .n) (c .args .k) (c .pre .1) (c .args .i) _ (c .pre .0) (sym (c .ride-at .ensures) ∙ c .in-rest .is) mid;
-  kept = (refl, refl);
+  kept = ((λ _ _. refl), (λ _. refl), refl);
 }
 
 pub loop-j-again : need.loop-j-again

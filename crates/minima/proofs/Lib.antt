@@ -1,0 +1,2 @@
+pub mod Ties
+pub mod Rows

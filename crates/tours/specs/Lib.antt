@@ -1,0 +1,4 @@
+pub mod Jobs
+pub mod Tasks
+pub mod Turns
+pub mod Laws
