@@ -16,15 +16,15 @@ loop-reader-init c =
 
 pub returns-in-err-stop : goal.returns-in-err-stop
 returns-in-err-stop c =
-    let b = c.next-line.new.self in
-    let is = c.read-line.ensures.value ∙ ap (λ n. line_of (spot_of b) n (fields_left b)) c.len.ensures.told in
-    let bad = row_refused job_lines (length (drafted c.loop-reader.draft)) c.loop-reader.reader c.loop-reader.invariant.0 b c.read-line.new.reader _ (c.in-ok-next-line.ensures.0 c.if-branch.true) c.read-line.ensures.kept is _ c.in-err-stop.was in
+    let b = c.next_line.new.self in
+    let is = c.read_line.ensures.value ∙ ap (λ n. line_of (spot_of b) n (fields_left b)) c.len.ensures.told in
+    let bad = row_refused job_lines (length (drafted c.loop-reader.draft)) c.loop-reader.reader c.loop-reader.invariant.0 b c.read_line.new.reader _ (c.in-ok-next_line.ensures.0 c.if-branch.true) c.read_line.ensures.kept is _ c.in-err-stop.was in
     let all = sym c.loop-reader.invariant.1 ∙ ap (after (drafted c.loop-reader.draft)) bad in
     search rules
 
 pub loop-reader-preserved : goal.loop-reader-preserved
 loop-reader-preserved c =
-    let b = c.next-line.new.self in
-    let is = c.read-line.ensures.value ∙ ap (λ n. line_of (spot_of b) n (fields_left b)) c.len.ensures.told in
-    let here = row_read job_lines (length (drafted c.loop-reader.draft)) c.loop-reader.reader c.loop-reader.invariant.0 b c.read-line.new.reader _ (c.in-ok-next-line.ensures.0 c.if-branch.true) c.read-line.ensures.kept is _ c.in-ok-stop.was in
-    (search rules, stop_here (drafted c.loop-reader.draft) (drafted c.push.new.self) _ (c.read-line.new.reader.line + 1) (rows_left c.read-line.new.reader) _ _ c.loop-reader.invariant.1 here c.in-Ok.ensures.written)
+    let b = c.next_line.new.self in
+    let is = c.read_line.ensures.value ∙ ap (λ n. line_of (spot_of b) n (fields_left b)) c.len.ensures.told in
+    let here = row_read job_lines (length (drafted c.loop-reader.draft)) c.loop-reader.reader c.loop-reader.invariant.0 b c.read_line.new.reader _ (c.in-ok-next_line.ensures.0 c.if-branch.true) c.read_line.ensures.kept is _ c.in-ok-stop.was in
+    (search rules, stop_here (drafted c.loop-reader.draft) (drafted c.push.new.self) _ (c.read_line.new.reader.line + 1) (rows_left c.read_line.new.reader) _ _ c.loop-reader.invariant.1 here c.in-Ok.ensures.written)

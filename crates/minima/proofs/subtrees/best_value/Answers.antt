@@ -12,9 +12,9 @@ pub loop-c-init : goal.loop-c-init
 loop-c-init g c = ap {B = Option g.row.M-Value.Denot} Some c.zero.ensures ∙ sym (total_none (optional g.M.Measure.meaning) _)
 
 pub loop-c-preserved : goal.loop-c-preserved
-loop-c-preserved g c = let m = g.M.Measure.meaning in c.join-options-sum.ensures ∙ ap (λ o. both m.joined o c.hanging-at.result) c.loop-c.invariant ∙ ap (both m.joined _) c.hanging-at.ensures ∙ sym (total_more (optional m) c.loop-c.c _)
+loop-c-preserved g c = let m = g.M.Measure.meaning in c.join_options-sum.ensures ∙ ap (λ o. both m.joined o c.hanging_at.result) c.loop-c.invariant ∙ ap (both m.joined _) c.hanging_at.ensures ∙ sym (total_more (optional m) c.loop-c.c _)
 
 pub returns : goal.returns
 returns g c = let m = g.M.Measure.meaning in let t = c.len-m.ensures.told in let e : c.loop-c.c ≡ length (stops_of c.args.job.now) = omega arith in
-    c.join-options.ensures ∙ ap₂ (both m.joined) c.own-at-own.ensures
+    c.join_options.ensures ∙ ap₂ (both m.joined) c.own_at-own.ensures
     (c.loop-c.invariant ∙ ap (λ k. total (optional m) k (λ x. cond (child_in (stops_of c.args.job.now) c.args.s x) (hang_in c.args.cells.now c.args.n x c.args.q) (Some m.nought))) e)

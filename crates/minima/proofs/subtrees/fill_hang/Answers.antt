@@ -15,17 +15,17 @@ loop-p-init g c = (stays_none c.args.cells.now, (λ i. refl), (λ t q d h. refl)
 
 pub loop-p-preserved : goal.loop-p-preserved
 loop-p-preserved g c = let m = g.M.Measure.meaning in
-    let else' : (t q : ℕ) → (t ≡ c.args.s → q ≡ c.loop-p.p → ⊥) → q < c.args.n → hang_in c.set-hang.new.cells c.args.n t q ≡ hang_in c.loop-p.cells c.args.n t q =
-    hang_else c.loop-p.cells c.set-hang.new.cells c.args.n c.stop-place-at.result c.args.s c.loop-p.p c.stop-place-at.ensures.0 (omega arith) c.set-hang.ensures.hangs in (
-      stays_both c.args.cells.now c.loop-p.cells c.set-hang.new.cells c.loop-p.invariant.0 c.set-hang.ensures.stays,
-      (λ i. c.set-hang.ensures.bests i ∙ c.loop-p.invariant.1 i),
+    let else' : (t q : ℕ) → (t ≡ c.args.s → q ≡ c.loop-p.p → ⊥) → q < c.args.n → hang_in c.set_hang.new.cells c.args.n t q ≡ hang_in c.loop-p.cells c.args.n t q =
+    hang_else c.loop-p.cells c.set_hang.new.cells c.args.n c.stop_place-at.result c.args.s c.loop-p.p c.stop_place-at.ensures.0 (omega arith) c.set_hang.ensures.hangs in (
+      stays_both c.args.cells.now c.loop-p.cells c.set_hang.new.cells c.loop-p.invariant.0 c.set_hang.ensures.stays,
+      (λ i. c.set_hang.ensures.bests i ∙ c.loop-p.invariant.1 i),
       (λ t q d h. else' t q (λ e _. d e) h ∙ c.loop-p.invariant.2 t q d h),
-      more (λ p. IsLeast (optional m) c.args.n (λ q. both m.joined (link_in c.args.cells.now c.args.n (stops_of c.args.job.now) c.args.s p q) (best_in c.args.cells.now c.args.n c.args.s q)) (hang_in c.set-hang.new.cells c.args.n c.args.s p)) c.loop-p.p
+      more (λ p. IsLeast (optional m) c.args.n (λ q. both m.joined (link_in c.args.cells.now c.args.n (stops_of c.args.job.now) c.args.s p q) (best_in c.args.cells.now c.args.n c.args.s q)) (hang_in c.set_hang.new.cells c.args.n c.args.s p)) c.loop-p.p
           (λ p l. least_same (optional m) (lifted m g.met.M.Measure.lawful.laws) c.args.n _ _ _ _ (λ _ _. refl) (else' c.args.s p (λ _ e. omega arith) (omega arith)) (c.loop-p.invariant.3 p l))
           (least_same (optional m) (lifted m g.met.M.Measure.lawful.laws) c.args.n _ _ _ _
           (λ q _. ap₂ (both m.joined) (sym (link_stays c.args.cells.now c.loop-p.cells c.args.n c.loop-p.invariant.0 (stops_of c.args.job.now) c.args.s c.loop-p.p q)) (sym (best_stays c.args.cells.now c.loop-p.cells c.args.n c.loop-p.invariant.1 c.args.s q)))
-          (hang_there c.set-hang.new.cells c.args.n c.args.s c.loop-p.p c.stop-place-at.result c.hang-value-value.result c.stop-place-at.ensures.0 c.set-hang.ensures.there)
-          c.hang-value-value.ensures),
+          (hang_there c.set_hang.new.cells c.args.n c.args.s c.loop-p.p c.stop_place-at.result c.hang_value-value.result c.stop_place-at.ensures.0 c.set_hang.ensures.there)
+          c.hang_value-value.ensures),
     )
 
 pub returns : goal.returns

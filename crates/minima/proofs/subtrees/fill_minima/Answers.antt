@@ -10,16 +10,16 @@ loop-i-init g c = (stays_none c.args.cells.now, λ t l h. absurd (omega arith))
 
 pub loop-i-preserved : goal.loop-i-preserved
 loop-i-preserved g c = let m = g.M.Measure.meaning in let laws = g.met.M.Measure.lawful.laws in let told = c.len-m.ensures.told in
-    let fb = c.fill-best.ensures in let fh = c.fill-hang.ensures in
-    let stays = stays_both c.loop-i.cells c.fill-best.new.cells c.fill-hang.new.cells c.fill-best.ensures.stays c.fill-hang.ensures.stays in (
-      stays_both c.args.cells.now c.loop-i.cells c.fill-hang.new.cells c.loop-i.invariant.0 stays,
+    let fb = c.fill_best.ensures in let fh = c.fill_hang.ensures in
+    let stays = stays_both c.loop-i.cells c.fill_best.new.cells c.fill_hang.new.cells c.fill_best.ensures.stays c.fill_hang.ensures.stays in (
+      stays_both c.args.cells.now c.loop-i.cells c.fill_hang.new.cells c.loop-i.invariant.0 stays,
       λ t l h. ⊎_elim
-          (λ e. subst (λ (x : ℕ). RowIn m c.fill-hang.new.cells c.args.n (stops_of c.args.job.now) x) (sym e)
-          (row_made m laws c.args.n c.args.job.now c.loop-i.cells c.fill-best.new.cells c.fill-hang.new.cells (c.len-m.result - 1 - c.loop-i.i)
-          c.fill-best.ensures.stays c.fill-hang.ensures.stays c.fill-best.ensures.hangs c.fill-hang.ensures.bests c.fill-hang.ensures.others c.fill-best.ensures.row c.fill-hang.ensures.row))
-          (λ d. row_stays m laws c.args.n c.args.job.now c.loop-i.cells c.fill-hang.new.cells t stays
-          (λ q k. best_stays c.fill-best.new.cells c.fill-hang.new.cells c.args.n c.fill-hang.ensures.bests t q ∙ c.fill-best.ensures.others t q d k)
-          (λ x p le k. c.fill-hang.ensures.others x p (λ e. d (omega arith)) k ∙ hang_stays c.loop-i.cells c.fill-best.new.cells c.args.n c.fill-best.ensures.hangs x p)
+          (λ e. subst (λ (x : ℕ). RowIn m c.fill_hang.new.cells c.args.n (stops_of c.args.job.now) x) (sym e)
+          (row_made m laws c.args.n c.args.job.now c.loop-i.cells c.fill_best.new.cells c.fill_hang.new.cells (c.len-m.result - 1 - c.loop-i.i)
+          c.fill_best.ensures.stays c.fill_hang.ensures.stays c.fill_best.ensures.hangs c.fill_hang.ensures.bests c.fill_hang.ensures.others c.fill_best.ensures.row c.fill_hang.ensures.row))
+          (λ d. row_stays m laws c.args.n c.args.job.now c.loop-i.cells c.fill_hang.new.cells t stays
+          (λ q k. best_stays c.fill_best.new.cells c.fill_hang.new.cells c.args.n c.fill_hang.ensures.bests t q ∙ c.fill_best.ensures.others t q d k)
+          (λ x p le k. c.fill_hang.ensures.others x p (λ e. d (omega arith)) k ∙ hang_stays c.loop-i.cells c.fill_best.new.cells c.args.n c.fill_best.ensures.hangs x p)
           (c.loop-i.invariant.1 t l (later (length (stops_of c.args.job.now)) t c.loop-i.i c.len-m.result (sym told) l h d)))
           (cases_eq t (c.len-m.result - 1 - c.loop-i.i)),
     )

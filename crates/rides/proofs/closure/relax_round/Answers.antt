@@ -10,8 +10,8 @@ loop-i-init g c = (λ s full. round_start g.M.Measure.meaning g.met.M.Measure.la
 
 pub loop-i-preserved : goal.loop-i-preserved
 loop-i-preserved g c = (
-  (λ s full. c.relax-row.ensures.rides s (c.loop-i.invariant.0 s full)),
-  kept_then c.args.n c.args.cells.now c.loop-i.cells c.relax-row.new.cells c.loop-i.invariant.1 c.relax-row.ensures.kept,
+  (λ s full. c.relax_row.ensures.rides s (c.loop-i.invariant.0 s full)),
+  kept_then c.args.n c.args.cells.now c.loop-i.cells c.relax_row.new.cells c.loop-i.invariant.1 c.relax_row.ensures.kept,
 )
 
 pub returns : goal.returns

@@ -6,8 +6,8 @@ use Rattle.rides.proofs.closure.relax_rounds.Goals as goal
 
 pub loop-k-preserved : goal.loop-k-preserved
 loop-k-preserved g c = (
-  (λ s full. c.relax-round.ensures.rides s (c.loop-k.invariant.0 s full)),
-  kept_then c.args.n c.args.cells.now c.loop-k.cells c.relax-round.new.cells c.loop-k.invariant.1 c.relax-round.ensures.kept,
+  (λ s full. c.relax_round.ensures.rides s (c.loop-k.invariant.0 s full)),
+  kept_then c.args.n c.args.cells.now c.loop-k.cells c.relax_round.new.cells c.loop-k.invariant.1 c.relax_round.ensures.kept,
 )
 
 pub returns : goal.returns

@@ -7,16 +7,16 @@ use Rattle.rides.proofs.CellWrites.{kind_written}
 use Rattle.rides.proofs.pairs.set_kind.Goals as goal
 
 pub offset-bounds-cells-i : goal.offset-bounds-cells-i
-offset-bounds-cells-i g c = scaled_Fits c.pair-place-i.result (length c.args.cells.now) _ (omega arith) (search rules)
+offset-bounds-cells-i g c = scaled_Fits c.pair_place-i.result (length c.args.cells.now) _ (omega arith) (search rules)
 
 pub returns : goal.returns
 returns g c =
     let cells = c.args.cells.now in
-    let i = c.pair-place-i.result in
+    let i = c.pair_place-i.result in
     let h : i < length cells = omega arith in
     let was = get_or_default cells i _ blank h in
     record {
-      kind = kind_written cells c.args.n c.args.p i c.pair-place-i.ensures.0 h c.requires.0 _
+      kind = kind_written cells c.args.n c.args.p i c.pair_place-i.ensures.0 h c.requires.0 _
           (ap (λ (x : Cell g.row.M.Denot g.row.V.Denot). x.leg) was) (ap (λ (x : Cell g.row.M.Denot g.row.V.Denot). x.ride) was);
-      behind = drop-set-lt _ cells i _ c.pair-place-i.ensures.1;
+      behind = drop-set-lt _ cells i _ c.pair_place-i.ensures.1;
     }

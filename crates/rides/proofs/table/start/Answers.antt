@@ -7,7 +7,7 @@ pub loop-a-init : goal.loop-a-init
 loop-a-init g c = (start_none g.M.Measure.meaning (g.S.Street.meaning c.args.street.now) c.args.n c.args.cells.now, refl)
 
 pub loop-a-preserved : goal.loop-a-preserved
-loop-a-preserved g c = (c.start-row.ensures.started c.loop-a.invariant.0, c.start-row.ensures.behind ∙ c.loop-a.invariant.1)
+loop-a-preserved g c = (c.start_row.ensures.started c.loop-a.invariant.0, c.start_row.ensures.behind ∙ c.loop-a.invariant.1)
 
 pub returns : goal.returns
 returns g c =

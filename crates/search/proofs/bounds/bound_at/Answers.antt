@@ -13,7 +13,7 @@ pub loop-s-init : goal.loop-s-init
 loop-s-init g c = ap {B = Option g.row.M-Value.Denot} Some c.zero.ensures ∙ sym (total_none (optional g.M.Measure.meaning) _)
 
 pub loop-s-preserved : goal.loop-s-preserved
-loop-s-preserved g c = let m = g.M.Measure.meaning in c.join-options-sum.ensures ∙ ap (λ o. both m.joined o c.term-at.result) c.loop-s.invariant ∙ ap (both m.joined _) c.term-at.ensures ∙ sym (total_more (optional m) c.loop-s.s _)
+loop-s-preserved g c = let m = g.M.Measure.meaning in c.join_options-sum.ensures ∙ ap (λ o. both m.joined o c.term_at.result) c.loop-s.invariant ∙ ap (both m.joined _) c.term_at.ensures ∙ sym (total_more (optional m) c.loop-s.s _)
 
 pub returns : goal.returns
 returns g c = λ τ H tables. let m = g.M.Measure.meaning in let t = c.len-m.ensures.told in

@@ -4,8 +4,8 @@ use Rattle.search.proofs.bounds.pick.Goals as goal
 
 pub loop-q-preserved : goal.loop-q-preserved
 loop-q-preserved g c = (
-  (λ τ H tables. c.try-place-best.ensures.picks τ H tables (c.loop-q.invariant.0 τ H tables)),
-  λ z. ⊎_elim (λ e. subst (λ (x : ℕ). x < c.args.n) (sym e) (c.loop-q.invariant.1 z)) (λ e. subst (λ (x : ℕ). x < c.args.n) (sym e) c.loop-q-test.true) c.try-place-best.ensures.within,
+  (λ τ H tables. c.try_place-best.ensures.picks τ H tables (c.loop-q.invariant.0 τ H tables)),
+  λ z. ⊎_elim (λ e. subst (λ (x : ℕ). x < c.args.n) (sym e) (c.loop-q.invariant.1 z)) (λ e. subst (λ (x : ℕ). x < c.args.n) (sym e) c.loop-q-test.true) c.try_place-best.ensures.within,
 )
 
 pub returns : goal.returns

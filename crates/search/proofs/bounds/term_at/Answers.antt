@@ -8,29 +8,29 @@ use Rattle.search.specs.Places.{cost_in}
 use Rattle.search.proofs.Bounding.{term_placed, term_hung, term_none}
 use Rattle.search.proofs.bounds.term_at.Goals as goal
 
-pub place-at-p-requires : goal.place-at-p-requires
-place-at-p-requires g c = let h = c.parent-at-parent.ensures.below c.requires.1 in let k = c.len-m.ensures.tree.few in let l = c.requires.1 in omega arith
+pub place_at-p-requires : goal.place_at-p-requires
+place_at-p-requires g c = let h = c.parent_at-parent.ensures.below c.requires.1 in let k = c.len-m.ensures.tree.few in let l = c.requires.1 in omega arith
 
-pub cost-at-requires : goal.cost-at-requires
-cost-at-requires g c = let h = c.parent-at-parent.ensures.below c.requires.1 in
-    (c.requires.0, c.requires.1, c.place-at-p.ensures.below c.args.n c.requires.3 c.requires.4 (omega arith), c.place-at-own.ensures.below c.args.n c.requires.3 c.requires.4 (omega arith))
+pub cost_at-requires : goal.cost_at-requires
+cost_at-requires g c = let h = c.parent_at-parent.ensures.below c.requires.1 in
+    (c.requires.0, c.requires.1, c.place_at-p.ensures.below c.args.n c.requires.3 c.requires.4 (omega arith), c.place_at-own.ensures.below c.args.n c.requires.3 c.requires.4 (omega arith))
 
-pub hang-at-requires : goal.hang-at-requires
-hang-at-requires g c = let r = c.requires.0 in let t = c.len-m.ensures.told in let k = c.len-m.ensures.tree.few in let l = c.requires.1 in let o = c.requires.0.room in
-    (omega arith, c.place-at-p-then-parent-i.ensures.below c.args.n c.requires.3 c.requires.4 (omega arith), r.few, omega arith, subst (λ (x : ℕ). c.args.n * c.args.n + x * c.args.n ≤ length c.args.cells.now) (sym c.len-m.ensures.told) c.requires.0.room)
+pub hang_at-requires : goal.hang_at-requires
+hang_at-requires g c = let r = c.requires.0 in let t = c.len-m.ensures.told in let k = c.len-m.ensures.tree.few in let l = c.requires.1 in let o = c.requires.0.room in
+    (omega arith, c.place_at-p-then-parent-i.ensures.below c.args.n c.requires.3 c.requires.4 (omega arith), r.few, omega arith, subst (λ (x : ℕ). c.args.n * c.args.n + x * c.args.n ≤ length c.args.cells.now) (sym c.len-m.ensures.told) c.requires.0.room)
 
 pub returns-then-s-i : goal.returns-then-s-i
 returns-then-s-i g c =
-    c.cost-at.ensures
-    ∙ ap₂ (cost_in g.M.Measure.meaning c.args.cells.now c.args.n (stops_of c.args.job.now) c.args.s) (c.place-at-p.ensures.value ∙ ap (put (places_of c.args.places.now) c.args.i c.args.q) c.parent-at-parent.ensures.told) c.place-at-own.ensures.value
+    c.cost_at.ensures
+    ∙ ap₂ (cost_in g.M.Measure.meaning c.args.cells.now c.args.n (stops_of c.args.job.now) c.args.s) (c.place_at-p.ensures.value ∙ ap (put (places_of c.args.places.now) c.args.i c.args.q) c.parent_at-parent.ensures.told) c.place_at-own.ensures.value
     ∙ term_placed c.args.s (c.args.i + 1) (parent_in (stops_of c.args.job.now) c.args.s) _ _ _ c.if-s-i.true
 
 pub returns-then-parent-i : goal.returns-then-parent-i
 returns-then-parent-i g c =
-    c.hang-at.ensures
-    ∙ ap (hang_in c.args.cells.now c.args.n c.args.s) (c.place-at-p-then-parent-i.ensures.value ∙ ap (put (places_of c.args.places.now) c.args.i c.args.q) c.parent-at-parent.ensures.told)
-    ∙ term_hung c.args.s (c.args.i + 1) (parent_in (stops_of c.args.job.now) c.args.s) _ _ _ c.if-s-i.false (subst (λ (x : ℕ). x < c.args.i + 1) c.parent-at-parent.ensures.told c.if-parent-i.true)
+    c.hang_at.ensures
+    ∙ ap (hang_in c.args.cells.now c.args.n c.args.s) (c.place_at-p-then-parent-i.ensures.value ∙ ap (put (places_of c.args.places.now) c.args.i c.args.q) c.parent_at-parent.ensures.told)
+    ∙ term_hung c.args.s (c.args.i + 1) (parent_in (stops_of c.args.job.now) c.args.s) _ _ _ c.if-s-i.false (subst (λ (x : ℕ). x < c.args.i + 1) c.parent_at-parent.ensures.told c.if-parent-i.true)
 
 pub returns-else-parent-i : goal.returns-else-parent-i
 returns-else-parent-i g c = ap {B = Option g.row.M-Value.Denot} Some c.zero.ensures
-    ∙ term_none c.args.s (c.args.i + 1) (parent_in (stops_of c.args.job.now) c.args.s) _ _ _ c.if-s-i.false (subst (λ (x : ℕ). c.args.i + 1 ≤ x) c.parent-at-parent.ensures.told c.if-parent-i.false)
+    ∙ term_none c.args.s (c.args.i + 1) (parent_in (stops_of c.args.job.now) c.args.s) _ _ _ c.if-s-i.false (subst (λ (x : ℕ). c.args.i + 1 ≤ x) c.parent_at-parent.ensures.told c.if-parent-i.false)

@@ -10,25 +10,25 @@ use Rattle.waiting.proofs.Keeping.{tables_kept}
 use Rattle.waiting.proofs.Starting.{some_room, queue_start, partition_start}
 use Rattle.waiting.proofs.opening.let_all_wait.Goals as goal
 
-pub set-entry-requires : goal.set-entry-requires
-set-entry-requires g c = let k = c.clear.auto.cells in let r = some_room c.args.k (length (stops_of c.args.job.now)) c.requires.3 (some_stop c.args.job.now) in let b = c.requires.5 in omega arith
+pub set_entry-requires : goal.set_entry-requires
+set_entry-requires g c = let k = c.clear.auto.cells in let r = some_room c.args.k (length (stops_of c.args.job.now)) c.requires.3 (some_stop c.args.job.now) in let b = c.requires.5 in omega arith
 
 pub returns : goal.returns
 returns g c = let m = g.M.Measure.meaning in
-    let e : c.args.base + c.room-for.result ≡ c.args.base + c.args.k * length (stops_of c.args.job.now) = ap (λ x. c.args.base + x) (c.room-for.ensures.0 ∙ ap (λ x. c.args.k * x) c.len-m.ensures.told) in
+    let e : c.args.base + c.room_for.result ≡ c.args.base + c.args.k * length (stops_of c.args.job.now) = ap (λ x. c.args.base + x) (c.room_for.ensures.0 ∙ ap (λ x. c.args.k * x) c.len-m.ensures.told) in
     let empty : (i : ℕ) → c.args.base ≤ i → i < c.args.base + c.args.k * length (stops_of c.args.job.now) → NoSpace (length (stops_of c.args.job.now)) (entry_in c.clear.new.cells i) =
     λ i h l. let x = c.clear.ensures.empty i h (omega arith) in (x.0, x.1 ∙ c.len-m.ensures.told) in
-    let safe : Safe c.args.n (length (stops_of c.args.job.now)) c.first-plan-first.result =
+    let safe : Safe c.args.n (length (stops_of c.args.job.now)) c.first_plan-first.result =
     λ some. (
-      subst (λ (d : ℕ). d < length (stops_of c.args.job.now)) (sym c.first-plan-first.ensures.kept.0) (some_stop c.args.job.now),
-      c.first-plan-first.ensures.small.0 (⊎_elim (λ h. h) (λ h. absurd (some (c.first-plan-first.ensures.small.1 (omega arith)))) (cases_lt 0 c.args.n)),
+      subst (λ (d : ℕ). d < length (stops_of c.args.job.now)) (sym c.first_plan-first.ensures.kept.0) (some_stop c.args.job.now),
+      c.first_plan-first.ensures.small.0 (⊎_elim (λ h. h) (λ h. absurd (some (c.first_plan-first.ensures.small.1 (omega arith)))) (cases_lt 0 c.args.n)),
     ) in record {
-      kept = λ i l. c.set-entry.ensures.others i (λ x. omega arith) ∙ c.clear.ensures.kept i l;
-      tables = tables_kept c.args.cells.now c.set-entry.new.cells c.args.n c.args.base (stops_of c.args.job.now) c.requires.1 (λ i l. c.set-entry.ensures.others i (λ x. omega arith) ∙ c.clear.ensures.kept i l) m;
-      queue = queue_start c.clear.new.cells c.set-entry.new.cells c.args.n (length (stops_of c.args.job.now)) c.args.base c.args.k c.first-plan-first.result c.set-entry.ensures.there c.set-entry.ensures.others empty c.requires.3 (some_stop c.args.job.now) c.first-plan-first.ensures.kept.0 safe;
+      kept = λ i l. c.set_entry.ensures.others i (λ x. omega arith) ∙ c.clear.ensures.kept i l;
+      tables = tables_kept c.args.cells.now c.set_entry.new.cells c.args.n c.args.base (stops_of c.args.job.now) c.requires.1 (λ i l. c.set_entry.ensures.others i (λ x. omega arith) ∙ c.clear.ensures.kept i l) m;
+      queue = queue_start c.clear.new.cells c.set_entry.new.cells c.args.n (length (stops_of c.args.job.now)) c.args.base c.args.k c.first_plan-first.result c.set_entry.ensures.there c.set_entry.ensures.others empty c.requires.3 (some_stop c.args.job.now) c.first_plan-first.ensures.kept.0 safe;
       stands = λ τ H tables. let after = tables_kept c.args.cells.now c.clear.new.cells c.args.n c.args.base (stops_of c.args.job.now) c.requires.1 c.clear.ensures.kept m τ H tables in
-          partition_start c.clear.new.cells c.set-entry.new.cells c.args.n (length (stops_of c.args.job.now)) c.args.base c.args.k c.first-plan-first.result c.set-entry.ensures.there c.set-entry.ensures.others empty c.requires.3 (some_stop c.args.job.now) c.first-plan-first.ensures.kept.0
+          partition_start c.clear.new.cells c.set_entry.new.cells c.args.n (length (stops_of c.args.job.now)) c.args.base c.args.k c.first_plan-first.result c.set_entry.ensures.there c.set_entry.ensures.others empty c.requires.3 (some_stop c.args.job.now) c.first_plan-first.ensures.kept.0
           m g.met.M.Measure.lawful.laws c.args.job.now τ H tables.holds.size after
-          (λ r. ap (λ (x : PlaceSet). has_bit x.bits r) c.first-plan-first.ensures.kept.1 ∙ c.empty.ensures.none r)
-          (c.first-plan-first.ensures.first τ H after);
+          (λ r. ap (λ (x : PlaceSet). has_bit x.bits r) c.first_plan-first.ensures.kept.1 ∙ c.empty.ensures.none r)
+          (c.first_plan-first.ensures.first τ H after);
     }

@@ -14,7 +14,7 @@ invariant-of-self c =
     let e : c.len-n.result ≡ c.args.self.now.len = at_end c.args.self.now c.len-n.result c.len-n.ensures.told in
     let h : c.len-n.result < length c.args.self.now.stops = omega arith in (
       length-set c.args.self.now.stops c.len-n.result c.args.stop ∙ c.args.self.now.room,
-      (omega arith, (hung_more c.args.self.now.stops c.len-n.result c.args.self.now.len c.args.stop e h c.args.self.now.hung (sym c.if-not-tied-at.ensures), tt)),
+      (omega arith, (hung_more c.args.self.now.stops c.len-n.result c.args.self.now.len c.args.stop e h c.args.self.now.hung (sym c.if-not-tied_at.ensures), tt)),
     )
 
 pub returns : goal.returns
