@@ -1,6 +1,6 @@
 -- A test of an example that can be computed, and that what passes it says what it should.
 use Rattle.std.proofs.Common.{◌≡◌, ℕ, zero, suc, ◌+◌, ◌<◌, ◌≤◌, Bool, true, false, not, ◌&&◌, ◌||◌, eqb, ltb, leb, ◌⊎◌, List, [], ◌∷◌, ◌++◌, map, length, get_or, Some, None, Option, sym, refl, ap, ◌∙◌, subst, ap₂, inl, inr, ⊎_elim, arith}
-use Rattle.std.proofs.lemmas.Bool.{false≢true, cases_lt, and_parts, or_cases, eqb-true, ltb-true, leb-true, not_true}
+use Rattle.std.proofs.lemmas.Bool.{false≢true, cases_lt, and_parts, or_cases, eqb-true, ltb-true, leb-true, not-true}
 use Rattle.measures.specs.Meaning.{MeasureMeaning}
 use Rattle.measures.specs.Laws.{Laws}
 use Rattle.measures.specs.Numbers.{time_laws, longest_laws}
@@ -177,7 +177,7 @@ module _ {V : Type 0} (m : MeasureMeaning V) (laws : Laws m.nought m.joined m.be
     comes_before : (e f : Entry V) → Known e → Known f → follows m s j e f ≡ true → Before m s j (places_of e) (places_of f)
     unfolding Known
     comes_before e f a b t = ⊎_elim
-        (λ h. by_score a.1.1 b.1.1 (not_true _ h))
+        (λ h. by_score a.1.1 b.1.1 (not-true _ h))
         (λ h. let p = and_parts (equal m e.score f.score) (sooner e.places f.places) h in
         by_places a.1.1 (subst (λ (v : V). Score m s j (places_of f) v) (sym (equal_is _ _ p.0)) b.1.1)
         (subst (λ (k : ℕ). Earlier k (places_of e) (places_of f)) a.0 (sooner_earlier e.places f.places p.1)))

@@ -6,9 +6,9 @@ use Rattle.rides.proofs.CellWrites.{kept_then}
 use Rattle.rides.proofs.Rounding.{mid_step, row_end, row_skip}
 use Rattle.rides.proofs.closure.relax_row.Goals as goal
 
-pub returns-in-default : goal.returns-in-default
-returns-in-default g c = record {
-  rides = λ s mid. row_skip g.M.Measure.meaning g.met.M.Measure.lawful.laws s c.args.n c.args.k c.requires.1 c.args.i _ c.requires.0 (sym c.ride_at.ensures ∙ c.in-default.is) mid;
+pub returns-in_default : goal.returns-in_default
+returns-in_default g c = record {
+  rides = λ s mid. row_skip g.M.Measure.meaning g.met.M.Measure.lawful.laws s c.args.n c.args.k c.requires.1 c.args.i _ c.requires.0 (sym c.ride_at.ensures ∙ c.in_default.is) mid;
   kept = ((λ _ _. refl), (λ _. refl), refl);
 }
 

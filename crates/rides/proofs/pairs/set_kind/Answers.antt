@@ -6,8 +6,8 @@ use Rattle.cells.specs.declared.cell.Cell.{Cell}
 use Rattle.rides.proofs.CellWrites.{kind_written}
 use Rattle.rides.proofs.pairs.set_kind.Goals as goal
 
-pub offset-bounds-cells-i : goal.offset-bounds-cells-i
-offset-bounds-cells-i g c = scaled_Fits c.pair_place-i.result (length c.args.cells.now) _ (omega arith) (search rules)
+pub offset_bounds-cells-i : goal.offset_bounds-cells-i
+offset_bounds-cells-i g c = scaled_Fits c.pair_place-i.result (length c.args.cells.now) _ (omega arith) (search rules)
 
 pub returns : goal.returns
 returns g c =

@@ -5,11 +5,11 @@ use Rattle.cells.specs.Tables.{blank}
 use Rattle.rides.proofs.CellWrites.{leg_first, ride_second, no_kind}
 use Rattle.rides.proofs.pairs.set_pair.Goals as goal
 
-pub offset-bounds-cells-i : goal.offset-bounds-cells-i
-offset-bounds-cells-i g c = scaled_Fits c.pair_place-i.result (length c.args.cells.now) _ (omega arith) (search rules)
+pub offset_bounds-cells-i : goal.offset_bounds-cells-i
+offset_bounds-cells-i g c = scaled_Fits c.pair_place-i.result (length c.args.cells.now) _ (omega arith) (search rules)
 
-pub offset-bounds-cells-i-2 : goal.offset-bounds-cells-i-2
-offset-bounds-cells-i-2 g c = scaled_Fits c.pair_place-i.result (length c.args.cells.now) _ (omega arith) (search rules)
+pub offset_bounds-cells-i-2 : goal.offset_bounds-cells-i-2
+offset_bounds-cells-i-2 g c = scaled_Fits c.pair_place-i.result (length c.args.cells.now) _ (omega arith) (search rules)
 
 pub returns : goal.returns
 returns g c =

@@ -9,13 +9,14 @@ use Rattle.jobs.proofs.job.Draft.push.Goals as goal
 at_end : (d : Draft) (n : ℕ) → n ≡ length (drafted d) → n ≡ d.len
 at_end d n e = e ∙ length-take-le d.len d.stops (omega arith)
 
-pub invariant-of-self : goal.invariant-of-self
-invariant-of-self c =
+pub invariant_of-self : goal.invariant_of-self
+invariant_of-self c =
     let e : c.len-n.result ≡ c.args.self.now.len = at_end c.args.self.now c.len-n.result c.len-n.ensures.told in
-    let h : c.len-n.result < length c.args.self.now.stops = omega arith in (
-      length-set c.args.self.now.stops c.len-n.result c.args.stop ∙ c.args.self.now.room,
-      (omega arith, (hung_more c.args.self.now.stops c.len-n.result c.args.self.now.len c.args.stop e h c.args.self.now.hung (sym c.if-not-tied_at.ensures), tt)),
-    )
+    let h : c.len-n.result < length c.args.self.now.stops = omega arith in record {
+      room = length-set c.args.self.now.stops c.len-n.result c.args.stop ∙ c.args.self.now.room;
+      few = omega arith;
+      hung = hung_more c.args.self.now.stops c.len-n.result c.args.self.now.len c.args.stop e h c.args.self.now.hung (sym c.if-not-tied_at.ensures);
+    }
 
 pub returns : goal.returns
 returns c =
