@@ -11,14 +11,14 @@ use Rattle.waiting.proofs.Keeping.{tables_kept}
 use Rattle.waiting.proofs.Stepping.{within, Facts, row_ends, queue_more, advanced}
 use Rattle.waiting.proofs.queue.split_off.Goals as goal
 
-pub overflow-add-base : goal.overflow-add-base
-overflow-add-base g c = let h = (within c.args.base c.args.w (length (stops_of c.args.job.now)) c.args.k c.args.rows (length c.args.cells.now) (some_stop c.args.job.now) (few_stops c.args.job.now) c.requires.2 c.requires.3 c.requires.4 c.requires.5 c.requires.8).1 in search rules
+pub overflow_add-base : goal.overflow_add-base
+overflow_add-base g c = let h = (within c.args.base c.args.w (length (stops_of c.args.job.now)) c.args.k c.args.rows (length c.args.cells.now) (some_stop c.args.job.now) (few_stops c.args.job.now) c.requires.2 c.requires.3 c.requires.4 c.requires.5 c.requires.8).1 in search rules
 
 pub entry_at-old-requires : goal.entry_at-old-requires
 entry_at-old-requires g c = (within c.args.base c.args.w (length (stops_of c.args.job.now)) c.args.k c.args.rows (length c.args.cells.now) (some_stop c.args.job.now) (few_stops c.args.job.now) c.requires.2 c.requires.3 c.requires.4 c.requires.5 c.requires.8).0
 
-pub overflow-add-base-2 : goal.overflow-add-base-2
-overflow-add-base-2 g c = let h = (within c.args.base c.args.w (length (stops_of c.args.job.now)) c.args.k c.args.rows (length c.args.cells.now) (some_stop c.args.job.now) (few_stops c.args.job.now) c.requires.2 c.requires.3 c.requires.4 c.requires.5 c.requires.8).1 in search rules
+pub overflow_add-base-2 : goal.overflow_add-base-2
+overflow_add-base-2 g c = let h = (within c.args.base c.args.w (length (stops_of c.args.job.now)) c.args.k c.args.rows (length c.args.cells.now) (some_stop c.args.job.now) (few_stops c.args.job.now) c.requires.2 c.requires.3 c.requires.4 c.requires.5 c.requires.8).1 in search rules
 
 pub set_entry-requires : goal.set_entry-requires
 set_entry-requires g c = (within c.args.base c.args.w (length (stops_of c.args.job.now)) c.args.k c.args.rows (length c.args.cells.now) (some_stop c.args.job.now) (few_stops c.args.job.now) c.requires.2 c.requires.3 c.requires.4 c.requires.5 c.requires.8).0
