@@ -1,5 +1,5 @@
 -- Every accepted book is sensible.
-use Rattle.std.proofs.Common.{◌≡◌, ℕ, ◌+◌, ◌<◌, ◌≤◌, min, Bool, true, false, cond, eqb, ltb, leb, List, [], ◌∷◌, length, drop, IfOk, Ok, Err, Result, refl, ap, subst, arith}
+use Rattle.std.proofs.Common.{◌≡◌, ℕ, ◌+◌, ◌<◌, ◌≤◌, Bool, true, false, cond, eqb, ltb, leb, List, [], ◌∷◌, length, drop, IfOk, Ok, Err, Result, arith}
 use Rattle.std.proofs.lemmas.Bool.{ltb-true, eqb-false}
 use Rattle.streets.specs.declared.legs.LegRecord.{LegRecord}
 use Rattle.faults.specs.declared.Spot.{Spot}
@@ -7,15 +7,15 @@ use Rattle.faults.specs.declared.LineFault.{LineFault}
 use Rattle.faults.specs.Faults.{spot, next_field}
 use Rattle.texts.specs.Cut.{Row, rows}
 use Rattle.texts.specs.Numbers.{number_in, letter_in}
-use Rattle.texts.specs.Rules.{is, and_then}
-use Rattle.texts.specs.Rows.{before, read_rows, read_text, in_text_of}
+use Rattle.texts.specs.Rules.{is}
+use Rattle.texts.specs.Rows.{before, read_rows, in_text_of}
 use Rattle.texts.proofs.Gives.{either_gives, then_gives, number_gives}
 use Rattle.books.specs.declared.line.Entry.{Entry}
 use Rattle.books.specs.declared.line.Entry.TheVariants.{Place, Leg}
 use Rattle.books.specs.declared.line.Counts.{Counts}
 use Rattle.books.specs.declared.line.Room.{Room}
-use Rattle.books.specs.Lines.{place_of, leg_of, line_of, leg_record}
-use Rattle.books.specs.Books.{Told, book, counts, advance, book_lines, kinds_of, legs_of, book_of, read_book}
+use Rattle.books.specs.Lines.{place_of, leg_of, line_of}
+use Rattle.books.specs.Books.{book, counts, advance, book_lines, kinds_of, legs_of, book_of, read_book}
 use Rattle.books.specs.Sensible.{Each, Kind, Joins, Sensible}
 
 -- what a line tells after some counts

@@ -1,2 +1,4 @@
+#![tactic(auto)]
+
 pub mod book;
 pub mod line;

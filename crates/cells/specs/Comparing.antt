@@ -1,13 +1,13 @@
 -- The order of waiting subspaces is total; one more place is compared.
-use Rattle.std.specs.Prelude.{◌≡◌, ℕ, ◌+◌, ◌-◌, ◌<◌, ◌≤◌, Bool, true, false, ◌⊎◌, List, refl}
-use Rattle.std.proofs.Common.{sym, ap, ◌∙◌, arith}
+use Rattle.std.specs.Prelude.{◌≡◌, ℕ, ◌+◌, ◌-◌, ◌<◌, ◌≤◌, true, false, ◌⊎◌}
+use Rattle.std.proofs.Common.{ap, ◌∙◌, arith}
 use Rattle.measures.specs.Laws.{Laws}
 use Rattle.measures.specs.Meaning.{MeasureMeaning}
 use Rattle.trees.specs.Scales.{optional}
 use Rattle.trees.specs.Subspaces.{not_later}
 use Rattle.trees.proofs.Lift.{lifted}
 use Rattle.trees.proofs.Choosing.{sooner_total, sooner_trans, later_less, later_more, later_same, later_none}
-use Rattle.cells.specs.Cells.{places_of, space_of, entry_before}
+use Rattle.cells.specs.Cells.{space_of, entry_before}
 use Rattle.cells.specs.declared.cell.Entry.{Entry}
 
 module _ {V : Type 0} (meaning : MeasureMeaning V) (laws : Laws meaning.nought meaning.joined meaning.before) where

@@ -1,3 +1,5 @@
+#![tactic(auto)]
+
 pub mod cell;
 pub mod order;
 pub mod tables;

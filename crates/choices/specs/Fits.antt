@@ -1,5 +1,5 @@
 -- Which places fit a stop, and what the choices of a stop are.
-use Rattle.std.specs.Prelude.{◌≡◌, ℕ, Bool, ◌&&◌, ◌||◌, Some, None, Ok, Err, Option, Result, MatchResult, ◌==◌, nat_lt}
+use Rattle.std.specs.Prelude.{◌≡◌, ℕ, Bool, ◌&&◌, ◌||◌, Some, None, Err, Option, Result, MatchResult, ◌==◌, nat_lt}
 use Rattle.streets.specs.Meaning.{StreetMeaning}
 use Rattle.jobs.specs.declared.stops.Stop.{Stop}
 use Rattle.sets.specs.Sets.{has_bit, count_to, Least}

@@ -1,3 +1,5 @@
+#![tactic(auto)]
+
 pub mod account;
 pub mod inputs;
 pub mod limit;

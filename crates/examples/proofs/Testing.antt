@@ -1,5 +1,5 @@
 -- A test of an example that can be computed, and that what passes it says what it should.
-use Rattle.std.proofs.Common.{◌≡◌, ℕ, zero, suc, ◌+◌, ◌<◌, ◌≤◌, Bool, true, false, not, ◌&&◌, ◌||◌, eqb, ltb, leb, ◌⊎◌, List, [], ◌∷◌, ◌++◌, map, length, get_or, Some, None, Option, sym, refl, ap, ◌∙◌, subst, ap₂, inl, inr, ⊎_elim, arith}
+use Rattle.std.proofs.Common.{◌≡◌, ℕ, zero, suc, ◌+◌, ◌<◌, Bool, true, false, not, ◌&&◌, ◌||◌, eqb, ltb, leb, List, [], ◌∷◌, ◌++◌, map, length, get_or, Some, None, Option, sym, refl, ap, ◌∙◌, subst, ap₂, inl, inr, ⊎_elim, arith}
 use Rattle.std.proofs.lemmas.Bool.{false≢true, cases_lt, and_parts, or_cases, eqb-true, ltb-true, leb-true, not-true}
 use Rattle.measures.specs.Meaning.{MeasureMeaning}
 use Rattle.measures.specs.Laws.{Laws}
@@ -11,10 +11,10 @@ use Rattle.plans.specs.Walks.{direct, RideOf}
 use Rattle.plans.specs.Job.{JobMeaning, Tree}
 use Rattle.plans.specs.Plans.{Plan, Score, Same, Earlier, Before, by_score, by_places}
 use Rattle.plans.specs.Computed.{ride_from, score_from}
-use Rattle.plans.specs.Laws.{RideLaws, ScoreLaws}
+use Rattle.plans.specs.Laws.{ScoreLaws}
 use Rattle.plans.proofs.Rides.{ride_laws_lem}
 use Rattle.plans.proofs.Scores.{score_laws_lem}
-use Rattle.examples.specs.Cases.{Measured, by_time, by_longest, by_climb, ValueBy, meaning_by, Town, street, Stop, job_of, Entry, places_of, All, Some_of, Chained, InOrder, Case, joins, direct_is, ride_is, plans_are, Says}
+use Rattle.examples.specs.Cases.{Measured, by_time, by_longest, by_climb, ValueBy, meaning_by, street, Stop, job_of, Entry, places_of, All, Some_of, Chained, InOrder, Case, joins, direct_is, ride_is, plans_are, Says}
 
 -- lists
 abbrev every : {X : Type 0} → (X → Bool) → List X → Bool

@@ -1,3 +1,5 @@
+#![tactic(auto)]
+
 ghost use Rattle.examples.specs.Cases.{All, Says};
 ghost use Rattle.examples.specs.Table.{table};
 

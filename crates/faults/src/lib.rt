@@ -1,3 +1,5 @@
+#![tactic(auto)]
+
 ghost use Rattle.std.specs.Prelude.{◌≡◌};
 ghost use Rattle.faults.specs.declared.LineFault.TheVariants.{Field};
 ghost use Rattle.faults.specs.Faults.{text_of, in_text, number_of_field, number_of_line, number_of_text, number_in_line, spot_in_line, number_of_cause, line_of_cause, field_of_cause, cause_of, number_of, line_of, field_of, field_fault, spot as spotAt};

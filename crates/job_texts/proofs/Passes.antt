@@ -1,5 +1,5 @@
 -- How far a pass over the rows of a job text has come, and that its faults say job.
-use Rattle.std.proofs.Common.{◌≡◌, ℕ, ◌+◌, eqb, ltb, List, [], ◌∷◌, ◌++◌, length, drop, Some, None, Ok, Err, Option, Result, sym, refl, ap, ◌∙◌, append_assoc, arith, length-append}
+use Rattle.std.proofs.Common.{◌≡◌, ℕ, ◌+◌, eqb, ltb, List, [], ◌∷◌, ◌++◌, length, drop, Some, None, Ok, Err, Option, Result, sym, refl, ap, ◌∙◌, append_assoc, length-append}
 use Rattle.jobs.specs.declared.job.Draft.{Draft}
 use Rattle.jobs.specs.declared.stops.Stop.{Stop}
 use Rattle.faults.specs.declared.LineFault.{LineFault}
@@ -11,7 +11,7 @@ use Rattle.texts.specs.Rows.{before, read_rows}
 use Rattle.texts.specs.Rules.{is}
 use Rattle.texts.proofs.Says.{Says, either_says, then_says, number_says, dash_says}
 use Rattle.job_texts.specs.declared.line.StopLine.{StopLine}
-use Rattle.job_texts.specs.Lines.{link_of, tie_of, parts_of, judged, stop_of, line_of}
+use Rattle.job_texts.specs.Lines.{link_of, tie_of, parts_of, judged, line_of}
 use Rattle.job_texts.specs.Texts.{job_lines, drafted_in}
 
 -- the stops so far, joined to what is left to read

@@ -1,2 +1,4 @@
+#![tactic(auto)]
+
 pub mod line;
 pub mod text;

@@ -1,3 +1,5 @@
+#![tactic(auto)]
+
 ghost use Rattle.std.specs.Prelude.{◌≡◌, Bool, not};
 ghost use Rattle.least.specs.Order.{Ordered, FirstLeast};
 

@@ -1,5 +1,5 @@
 -- Climb: the metres climbed and the seconds, each held at 4,294,967,295.
-use Rattle.std.specs.Prelude.{ℕ, ◌+◌, ◌≤◌, min, Bool, cond, ◌&&◌, ◌||◌, codes, ◌==◌, nat_le, nat_lt}
+use Rattle.std.specs.Prelude.{ℕ, ◌+◌, min, Bool, cond, ◌&&◌, ◌||◌, codes, ◌==◌, nat_le, nat_lt}
 use Rattle.std.proofs.Common.{arith}
 use Rattle.measures.specs.Meaning.{MeasureMeaning}
 use Rattle.measures.specs.declared.values.ClimbValue.{ClimbValue}

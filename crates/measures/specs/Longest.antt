@@ -1,5 +1,5 @@
 -- Longest: the seconds of the longest leg.
-use Rattle.std.specs.Prelude.{ℕ, ◌≤◌, min, max, Bool, codes, nat_le}
+use Rattle.std.specs.Prelude.{ℕ, min, max, Bool, codes, nat_le}
 use Rattle.std.proofs.Common.{arith}
 use Rattle.measures.specs.Meaning.{MeasureMeaning}
 use Rattle.measures.specs.declared.values.LongestValue.{LongestValue}

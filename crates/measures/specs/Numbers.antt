@@ -1,8 +1,7 @@
 -- The laws of a measure whose values are ordered as numbers are.
-use Rattle.std.specs.Prelude.{◌≡◌, ℕ, ◌+◌, ◌≤◌, min, max, true, nat_le, refl}
+use Rattle.std.specs.Prelude.{◌≡◌, ℕ, ◌≤◌, max, nat_le, refl}
 use Rattle.std.proofs.Common.{sym, ap, ◌∙◌, ⊎_elim, inl, inr, arith}
 use Rattle.std.proofs.lemmas.Bool.{cases_lt, leb-true, le-leb}
-use Rattle.measures.specs.declared.values.TimeValue.{TimeValue}
 use Rattle.measures.specs.declared.values.LongestValue.{LongestValue}
 use Rattle.measures.specs.Laws.{Laws}
 use Rattle.measures.specs.Time.{time_of, time_zero, time_join, time_before}

@@ -1,5 +1,5 @@
 -- Time: the seconds, added up and held at 4,294,967,295.
-use Rattle.std.specs.Prelude.{ℕ, ◌+◌, ◌≤◌, min, Bool, codes, nat_le}
+use Rattle.std.specs.Prelude.{ℕ, ◌+◌, min, Bool, codes, nat_le}
 use Rattle.std.proofs.Common.{arith}
 use Rattle.measures.specs.Meaning.{MeasureMeaning}
 use Rattle.measures.specs.declared.values.TimeValue.{TimeValue}

@@ -1,3 +1,5 @@
+#![tactic(auto)]
+
 ghost use Rattle.std.specs.Prelude.{◌≡◌};
 ghost use Rattle.measures.specs.Laws.{Lawful};
 ghost use Rattle.measures.specs.Meaning.{MeasureMeaning};

@@ -1,22 +1,22 @@
 -- One more cell of a row, one more row, and what the rows say of the task.
-use Rattle.std.proofs.Common.{◌≡◌, ℕ, ◌+◌, ◌-◌, ◌*◌, ◌/◌, ◌%◌, ◌<◌, ◌≤◌, Bool, true, false, cond, ◌&&◌, eqb, ltb, ◌⊎◌, List, length, get_or, Some, None, Option, sym, refl, ap, ◌∙◌, subst, ap₂, inl, inr, ⊎_elim, arith}
+use Rattle.std.proofs.Common.{◌≡◌, ℕ, ◌+◌, ◌*◌, ◌/◌, ◌%◌, ◌<◌, ◌≤◌, true, false, cond, ◌&&◌, eqb, ltb, ◌⊎◌, List, length, get_or, Some, Option, sym, refl, ap, ◌∙◌, subst, ap₂, ⊎_elim, arith}
 use Rattle.measures.specs.Optional.{both}
 use Rattle.std.proofs.lemmas.Nat.{div-mul-add, mod-mul-add}
-use Rattle.std.proofs.lemmas.Bool.{cases_lt, cases_eq, cases_Bool, cond-true, cond-false, ne_eqb}
+use Rattle.std.proofs.lemmas.Bool.{cases_lt, cases_Bool, cond-false, ne_eqb}
 use Rattle.std.proofs.lemmas.Bool.Decides.{nat_tests}
 use Rattle.measures.specs.Laws.{Laws}
 use Rattle.measures.specs.Meaning.{MeasureMeaning}
 use Rattle.jobs.specs.declared.stops.Stop.{Stop}
 use Rattle.jobs.specs.declared.job.Job.{Job}
 use Rattle.jobs.specs.Jobs.{stops_of}
-use Rattle.trees.specs.Scales.{Scale, at_most, optional}
+use Rattle.trees.specs.Scales.{Scale, optional}
 use Rattle.trees.specs.Tasks.{Task, cost, total}
 use Rattle.trees.specs.Minima.{IsLeast, child, hanging, Minimal}
 use Rattle.trees.proofs.Lift.{lifted}
 use Rattle.trees.proofs.Bounds.{total_same, least_same}
 use Rattle.cells.specs.declared.cell.Cell.{Cell}
 use Rattle.cells.specs.Tables.{blank, leg_in, ride_in, own_in, best_in, hang_in, Stays}
-use Rattle.minima.specs.Tables.{parent_in, child_in, by_tie, tie_in, link_in, hanging_in, RowIn, Holds, task_in}
+use Rattle.minima.specs.Tables.{child_in, by_tie, tie_in, link_in, hanging_in, RowIn, Holds, task_in}
 use Rattle.minima.proofs.Ties.{both_below, root_itself}
 
 -- two cells of stops at places are the same one only for the same stop and place

@@ -1,5 +1,5 @@
 -- A job's stops make a tree.
-use Rattle.std.proofs.Common.{◌≡◌, ℕ, ◌<◌, ◌≤◌, Bool, true, false, ◌⊎◌, List, length, Some, None, Option, sym, refl, ap, ◌∙◌, ⊎_elim, arith}
+use Rattle.std.proofs.Common.{◌≡◌, ℕ, ◌<◌, ◌≤◌, true, length, Some, None, Option, refl, arith}
 use Rattle.std.proofs.lemmas.List.{length-take-le}
 use Rattle.std.proofs.lemmas.Bool.Decides.{nat_tests}
 use Rattle.std.specs.List.{slice_get}
@@ -8,7 +8,6 @@ use Rattle.jobs.specs.declared.stops.Tie.{Tie}
 use Rattle.jobs.specs.declared.job.Job.{Job}
 use Rattle.jobs.specs.Trees.{tied}
 use Rattle.jobs.specs.Jobs.{stops_of}
-use Rattle.trees.specs.Tasks.{Rooted}
 use Rattle.minima.specs.Tables.{tie_of, parent_of, parent_in}
 
 tie_below : (s : ℕ) (o : Option Tie) → tied s o ≡ true → (parent_of o ≤ s) × (0 < s → parent_of o < s)

@@ -1,5 +1,5 @@
 -- The task that cells and a job hold.
-use Rattle.std.specs.Prelude.{◌≡◌, ℕ, ◌+◌, ◌*◌, ◌<◌, ◌≤◌, Bool, true, false, cond, ◌&&◌, List, length, Some, None, Option, ◌==◌, nat_lt}
+use Rattle.std.specs.Prelude.{◌≡◌, ℕ, ◌+◌, ◌*◌, ◌<◌, ◌≤◌, Bool, cond, ◌&&◌, List, length, Some, None, Option, ◌==◌, nat_lt}
 use Rattle.measures.specs.Optional.{both}
 use Rattle.std.specs.List.{slice_get}
 use Rattle.measures.specs.Meaning.{MeasureMeaning}

@@ -1,2 +1,4 @@
+#![tactic(auto)]
+
 pub mod links;
 pub mod subtrees;

@@ -1,11 +1,11 @@
 -- A ride exists exactly where a walk does, is one value, and is the one that is worked out.
-use Rattle.std.proofs.Common.{◌≡◌, ℕ, zero, suc, ◌+◌, ◌<◌, true, Some, None, Option, sym, refl, ap, ◌∙◌, subst, add-one}
+use Rattle.std.proofs.Common.{◌≡◌, ℕ, zero, suc, true, Some, None, Option, refl, ap, ◌∙◌, subst, add-one}
 use Rattle.measures.specs.Meaning.{MeasureMeaning}
 use Rattle.measures.specs.Laws.{Laws}
 use Rattle.streets.specs.Meaning.{StreetMeaning, Sound}
 use Rattle.streets.specs.declared.legs.Leg.{Leg}
-use Rattle.plans.specs.Walks.{leg_value, leg_valued, direct, Walk, last, on, walk_value, Ride, RideOf}
-use Rattle.plans.specs.Between.{Via, leg, onward, Reaches, Best}
+use Rattle.plans.specs.Walks.{leg_value, leg_valued, Walk, last, on, walk_value, Ride, RideOf}
+use Rattle.plans.specs.Between.{Via, leg, onward, Best}
 use Rattle.plans.specs.Computed.{ride_over, ride_from}
 use Rattle.plans.specs.Laws.{RideLaws}
 use Rattle.plans.proofs.Closure.{none_some, widen, step_walk, step_below, best_start}

@@ -5,7 +5,7 @@ use Rattle.std.proofs.lemmas.Bool.{cases_lt, cond-true, and_parts, and_from, ltb
 use Rattle.measures.specs.Meaning.{MeasureMeaning}
 use Rattle.measures.specs.Laws.{Laws}
 use Rattle.streets.specs.Meaning.{StreetMeaning, Sound}
-use Rattle.plans.specs.Walks.{direct, Ride, RideOf}
+use Rattle.plans.specs.Walks.{direct, RideOf}
 use Rattle.plans.specs.Job.{JobMeaning, Tree}
 use Rattle.plans.specs.Plans.{fits, LinkValue, StopLink, Plan, links_joined, Score, Same}
 use Rattle.plans.specs.Computed.{ride_from, link_from, stop_value, total, score_from}

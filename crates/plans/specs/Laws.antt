@@ -1,5 +1,5 @@
 -- The laws of rides, scores and the order of plans.
-use Rattle.std.specs.Prelude.{◌≡◌, ℕ, ◌⊎◌, Some, None, Option}
+use Rattle.std.specs.Prelude.{◌≡◌, ℕ, ◌⊎◌, Some, Option}
 use Rattle.measures.specs.Meaning.{MeasureMeaning}
 use Rattle.streets.specs.Meaning.{StreetMeaning, Sound}
 use Rattle.plans.specs.Walks.{Walk, Ride, RideOf}

@@ -1,3 +1,5 @@
+#![tactic(auto)]
+
 ghost use Rattle.plans.specs.Laws.{RideLaws, ScoreLaws, OrderLaws};
 
 use measures::Measure;

@@ -3,6 +3,8 @@
 //   job TEXT                a job text
 //   limit TEXT              whether the console reads the text
 // In TEXT \t is byte 9, \n byte 10, \h byte 200, and \*N;c stands for N bytes c.
+#![tactic(auto)]
+
 use anyhow::anyhow;
 use books::book::read_book;
 use books::line::Counts;

@@ -1,5 +1,5 @@
 -- A round of the closure, pair by pair.
-use Rattle.std.proofs.Common.{◌≡◌, ℕ, ◌+◌, ◌<◌, ◌⊎◌, Some, None, Option, sym, ◌∙◌, subst, inl, inr, ⊎_elim, arith}
+use Rattle.std.proofs.Common.{◌≡◌, ℕ, ◌+◌, ◌<◌, Some, None, Option, sym, ◌∙◌, subst, inl, inr, ⊎_elim, arith}
 use Rattle.measures.specs.Optional.{both}
 use Rattle.std.proofs.lemmas.Bool.{cases_lt, cases_eq}
 use Rattle.measures.specs.Meaning.{MeasureMeaning}

@@ -1,3 +1,5 @@
+#![tactic(auto)]
+
 pub mod closure;
 mod pairs;
 pub mod table;

@@ -1,5 +1,5 @@
 -- The join over the cells is the bound.
-use Rattle.std.proofs.Common.{◌≡◌, ℕ, ◌+◌, ◌<◌, ◌≤◌, Bool, true, false, cond, eqb, ltb, List, length, Some, None, Option, sym, refl, ap, ◌∙◌, subst, ap₂, arith}
+use Rattle.std.proofs.Common.{◌≡◌, ℕ, ◌+◌, ◌<◌, ◌≤◌, cond, eqb, ltb, List, length, Some, Option, sym, ap, ◌∙◌, ap₂, arith}
 use Rattle.measures.specs.Optional.{both}
 use Rattle.std.proofs.lemmas.Bool.Decides.{nat_tests}
 use Rattle.measures.specs.Laws.{Laws}
@@ -13,7 +13,7 @@ use Rattle.trees.proofs.Lift.{lifted}
 use Rattle.trees.proofs.Bounds.{total_same}
 use Rattle.cells.specs.declared.cell.Cell.{Cell}
 use Rattle.minima.specs.Tables.{parent_in, Tables}
-use Rattle.minima.proofs.Ties.{tied_below, both_below}
+use Rattle.minima.proofs.Ties.{tied_below}
 use Rattle.search.specs.Places.{term_in, cost_in}
 
 same_cond : {W : Type 0} (s i p : ℕ) (a a' b b' d : W) → (s < i → a ≡ a') → (i ≤ s → p < i → b ≡ b') → cond (ltb s i) a (cond (ltb p i) b d) ≡ cond (ltb s i) a' (cond (ltb p i) b' d)

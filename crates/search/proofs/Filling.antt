@@ -1,5 +1,5 @@
 -- One stop more has its place.
-use Rattle.std.proofs.Common.{◌≡◌, ℕ, ◌+◌, ◌<◌, ◌≤◌, Bool, true, false, List, length, get_or, set, Some, None, Option, sym, refl, ap, ◌∙◌, subst, ⊎_elim, arith}
+use Rattle.std.proofs.Common.{◌≡◌, ℕ, ◌+◌, ◌<◌, ◌≤◌, false, List, length, get_or, set, None, Option, sym, refl, ap, ◌∙◌, subst, ⊎_elim, arith}
 use Rattle.std.proofs.lemmas.List.{get_or-set_same, get_or-set_other}
 use Rattle.std.proofs.lemmas.Bool.{cases_lt, cases_eq}
 use Rattle.measures.specs.Laws.{Laws}
@@ -15,7 +15,6 @@ use Rattle.trees.specs.Subspaces.{Picked, Found, First}
 use Rattle.trees.proofs.Lift.{lifted}
 use Rattle.trees.proofs.Firsts.{found_start, found_more, swap}
 use Rattle.cells.specs.declared.cell.Cell.{Cell}
-use Rattle.cells.specs.declared.cell.Entry.{Entry}
 use Rattle.cells.specs.Cells.{places_of, space_of}
 use Rattle.minima.specs.Tables.{Tables}
 use Rattle.search.specs.declared.choice.Choice.{Choice}

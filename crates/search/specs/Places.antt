@@ -1,5 +1,5 @@
 -- The terms of a bound as the cells have them, and the choice of a place.
-use Rattle.std.specs.Prelude.{◌≡◌, ℕ, ◌+◌, ◌<◌, ◌≤◌, Bool, true, false, cond, List, length, Some, Option, ◌==◌, nat_lt}
+use Rattle.std.specs.Prelude.{ℕ, ◌+◌, cond, List, Some, Option, ◌==◌, nat_lt}
 use Rattle.measures.specs.Optional.{both}
 use Rattle.measures.specs.Meaning.{MeasureMeaning}
 use Rattle.sets.specs.Sets.{has_bit}

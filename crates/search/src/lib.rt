@@ -1,3 +1,5 @@
+#![tactic(auto)]
+
 pub mod bounds;
 pub mod choice;
 pub mod firsts;

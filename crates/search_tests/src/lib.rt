@@ -1,4 +1,6 @@
 // The first plan and the whole enumeration over random small tables, compared with all placements laid out.
+#![tactic(auto)]
+
 ghost use Rattle.std.specs.Prelude.{◌≡◌, ℕ, ◌+◌, ◌<◌, ◌≤◌, length};
 ghost use Rattle.jobs.specs.Jobs.{stops_of};
 ghost use Rattle.cells.specs.Cells.{places_of};

@@ -1,11 +1,11 @@
 -- Laws of the bits of a number, of counts and of least numbers.
-use Rattle.std.proofs.Common.{◌≡◌, ℕ, zero, suc, ◌+◌, ◌-◌, ◌*◌, ◌/◌, ◌%◌, ◌^◌, ◌<◌, ◌≤◌, max, Bool, true, false, cond, ◌||◌, eqb, ◌⊎◌, sym, refl, ap, ◌∙◌, inl, inr, ⊎_elim, lt_of_lt_of_le, add-zero, add-suc, pow-suc, zero-add, div-one, mul-div_cancel, one-add, arith, pow_pos, pow_mono}
+use Rattle.std.proofs.Common.{◌≡◌, ℕ, zero, suc, ◌+◌, ◌-◌, ◌*◌, ◌/◌, ◌%◌, ◌^◌, ◌<◌, ◌≤◌, max, Bool, false, cond, ◌||◌, eqb, ◌⊎◌, sym, refl, ap, ◌∙◌, inl, inr, ⊎_elim, lt_of_lt_of_le, add-zero, add-suc, pow-suc, zero-add, div-one, mul-div_cancel, one-add, arith, pow_pos, pow_mono}
 use native.Mathlib.Nat.{add_left_comm, div-eq_of_lt, div_self}
 use lib.Bits.{bit_and, bit_or, and_mask, or_shr, or_step}
-use lib.Count.{ones, ones_step, ones-le, count_trailing_zeros, under}
+use lib.Count.{ones, ones_step, ones-le, count_trailing_zeros}
 use lib.Pow.{pow-lt}
 use Rattle.std.proofs.lemmas.Nat.{one_shl, pow-add, shr-shr}
-use Rattle.std.proofs.lemmas.Bool.{cases_order, cases_eq, cases_lt, eq-eqb, ne_eqb}
+use Rattle.std.proofs.lemmas.Bool.{cases_order, cases_eq, eq-eqb, ne_eqb}
 use Rattle.sets.specs.Sets.{has_bit, count_to, Least}
 
 -- One bit

@@ -1,3 +1,5 @@
+#![tactic(auto)]
+
 // Examples of streets and choices, run as tests.
 #[cfg(test)]
 mod tests {

@@ -1,5 +1,5 @@
 -- The street that a quarter stands for: a grid of crossings.
-use Rattle.std.specs.Prelude.{ℕ, ◌+◌, ◌*◌, ◌/◌, ◌%◌, ◌<◌, ◌≤◌, Bool, true, false, cond, ◌&&◌, ◌||◌, Some, None, Option, ◌==◌, nat_le, nat_lt}
+use Rattle.std.specs.Prelude.{ℕ, ◌+◌, ◌*◌, ◌/◌, ◌%◌, Bool, cond, ◌&&◌, ◌||◌, Some, None, ◌==◌, nat_le, nat_lt}
 use Rattle.streets.specs.Meaning.{StreetMeaning}
 use Rattle.streets.specs.declared.legs.Leg.{Leg}
 

@@ -1,5 +1,5 @@
 -- The street that a list of kinds and a list of leg records stand for.
-use Rattle.std.specs.Prelude.{ℕ, min, Bool, true, false, cond, ◌&&◌, ◌||◌, List, [], ◌∷◌, length, take, Some, None, Option, ◌==◌, nat_le, nat_lt, slice_index}
+use Rattle.std.specs.Prelude.{ℕ, min, Bool, cond, ◌&&◌, ◌||◌, List, [], ◌∷◌, length, take, Some, None, Option, ◌==◌, nat_le, nat_lt, slice_index}
 use Rattle.streets.specs.Meaning.{StreetMeaning}
 use Rattle.streets.specs.declared.legs.Leg.{Leg}
 use Rattle.streets.specs.declared.legs.LegRecord.{LegRecord}

@@ -1,11 +1,10 @@
 -- The built streets keep what every street keeps.
-use Rattle.std.specs.Prelude.{◌≡◌, ℕ, ◌+◌, ◌*◌, ◌%◌, ◌<◌, ◌≤◌, Bool, true, false, cond, ◌&&◌, ◌||◌, List, take, Some, None, Option, ◌==◌, ◌≢◌, nat_le, nat_lt, slice_index, refl}
-use Rattle.std.proofs.Common.{sym, ◌∙◌, arith}
+use Rattle.std.specs.Prelude.{◌≡◌, ℕ, ◌+◌, ◌*◌, ◌%◌, ◌≤◌, Bool, true, false, cond, ◌&&◌, ◌||◌, List, take, Some, None, Option, ◌==◌, ◌≢◌, nat_le, nat_lt, slice_index, refl}
+use Rattle.std.proofs.Common.{arith}
 use Rattle.std.proofs.lemmas.Bool.{or_parts, or_right, and_parts, and_right, leb-false, ltb-true, le-ltb, eq-eqb, ne_eqb, cond-true, cond-false}
-use Rattle.streets.specs.Meaning.{StreetMeaning, Sound}
+use Rattle.streets.specs.Meaning.{Sound}
 use Rattle.streets.specs.Lists.{list_meaning, counted, last_leg}
 use Rattle.streets.specs.Grid.{Grid, grid_meaning, inside, up, right, row, column, leg_of}
-use Rattle.streets.specs.declared.legs.Leg.{Leg}
 use Rattle.streets.specs.declared.legs.LegRecord.{LegRecord}
 
 none_some : {X : Type 0} {x : X} → None ≢ Some x

@@ -1,3 +1,5 @@
+#![tactic(auto)]
+
 pub mod legs;
 pub mod list;
 pub mod quarter;

@@ -1,9 +1,9 @@
 -- How a text's cuts step along it.
-use Rattle.std.proofs.Common.{◌≡◌, ℕ, suc, ◌+◌, ◌-◌, ◌<◌, ◌≤◌, min, Bool, true, false, cond, eqb, ltb, List, [], ◌∷◌, map, length, get_or, take, drop, sym, refl, ap, ◌∙◌, ⊎_elim, add-one, arith, length-drop}
+use Rattle.std.proofs.Common.{◌≡◌, ℕ, suc, ◌+◌, ◌-◌, ◌<◌, ◌≤◌, Bool, true, false, cond, eqb, List, [], ◌∷◌, map, length, get_or, take, drop, sym, refl, ap, ◌∙◌, ⊎_elim, add-one, arith, length-drop}
 use Rattle.std.proofs.lemmas.List.{at_drop_more, at_drop_all, drop-drop, take_all, take-take, length-take-le}
 use Rattle.std.proofs.lemmas.Slice.{between_is}
-use Rattle.std.proofs.lemmas.Bool.{eq-eqb, ne_eqb, cond-true, cond-false, cond_both, cases_lt, lt-ltb, le-ltb, le-leb, lt-leb}
-use Rattle.texts.specs.Cut.{Line, before, lines, onto, fields, grow, row_of, rows, fields_from}
+use Rattle.std.proofs.lemmas.Bool.{eq-eqb, ne_eqb, cond-true, cond-false, cond_both, cases_lt, le-leb, lt-leb}
+use Rattle.texts.specs.Cut.{before, lines, onto, fields, grow, row_of, rows, fields_from}
 
 pub before_more : (b : ℕ) (xs : List ℕ) (i : ℕ) → i < length xs → (get_or xs i 0 ≡ b → ⊥) → before b (drop i xs) ≡ 1 + before b (drop (i + 1) xs)
 before_more b xs i h ne = at_drop_more (before b) xs i 0 h ∙ cond-false _ _ _ (ne_eqb _ _ ne) ∙ omega arith

@@ -1,5 +1,5 @@
 -- A fault says which text it stands in.
-use Rattle.std.proofs.Common.{◌≡◌, ℕ, Bool, true, false, cond, leb, List, [], ◌∷◌, Some, None, Ok, Err, Option, Result, refl}
+use Rattle.std.proofs.Common.{◌≡◌, ℕ, Bool, true, false, cond, leb, List, [], ◌∷◌, Ok, Err, Result, refl}
 use Rattle.faults.specs.declared.Text.{Text}
 use Rattle.faults.specs.declared.Spot.{Spot}
 use Rattle.faults.specs.declared.FieldFault.{FieldFault}

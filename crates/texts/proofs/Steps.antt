@@ -1,12 +1,12 @@
 -- What one line more tells, and which text a fault says.
-use Rattle.std.proofs.Common.{◌≡◌, ℕ, ◌+◌, true, false, List, [], ◌∷◌, Ok, Err, Result, sym, refl, ap, ◌∙◌, subst, arith}
+use Rattle.std.proofs.Common.{◌≡◌, ℕ, ◌+◌, false, List, [], ◌∷◌, Ok, Err, Result, sym, refl, ap, ◌∙◌, subst, arith}
 use Rattle.faults.specs.declared.Spot.{Spot}
 use Rattle.faults.specs.declared.LineWrong.TheVariants.{Unended}
 use Rattle.faults.specs.declared.LineFault.{LineFault}
 use Rattle.faults.specs.declared.Cause.TheVariants.{Line}
 use Rattle.texts.specs.declared.reader.Reader.{Reader}
 use Rattle.texts.specs.Cut.{Row}
-use Rattle.faults.specs.Faults.{spot, line_fault, text_of, fault_in, in_text}
+use Rattle.faults.specs.Faults.{spot, line_fault, fault_in, in_text}
 use Rattle.texts.specs.Means.{rows_left, fields_left, spot_of, NewLine}
 use Rattle.texts.specs.Rules.{Kept, and_then}
 use Rattle.texts.specs.Rows.{Grammar, before, read_rows, state_after}

@@ -1,5 +1,5 @@
 -- How a text is cut into lines and a line into fields.
-use Rattle.std.specs.Prelude.{ℕ, suc, ◌+◌, Bool, true, false, cond, List, [], ◌∷◌, map, length, drop, ◌==◌, nat_le}
+use Rattle.std.specs.Prelude.{ℕ, suc, Bool, true, false, cond, List, [], ◌∷◌, map, length, drop, ◌==◌, nat_le}
 
 -- a line: its bytes without the end, and whether the end is there
 abbrev pub Line : Type 0

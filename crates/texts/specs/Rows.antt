@@ -1,5 +1,5 @@
 -- How a text is read: line by line, and the first refused line decides.
-use Rattle.std.specs.Prelude.{◌≡◌, ℕ, ◌+◌, cond, List, [], ◌∷◌, length, Ok, Err, Result, nat_le}
+use Rattle.std.specs.Prelude.{ℕ, ◌+◌, cond, List, [], ◌∷◌, length, Ok, Err, Result, nat_le}
 use Rattle.faults.specs.declared.Text.{Text}
 use Rattle.faults.specs.declared.Spot.{Spot}
 use Rattle.faults.specs.declared.LineWrong.TheVariants.{Unended}

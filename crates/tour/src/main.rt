@@ -1,3 +1,5 @@
+#![tactic(auto)]
+
 use books::line::Counts;
 use choices::answers::Choices;
 use choices::choices;

@@ -1,3 +1,5 @@
+#![tactic(auto)]
+
 ghost use Rattle.tours.specs.Laws.{TourLaws};
 
 use measures::Measure;

@@ -1,11 +1,11 @@
 -- One stop more: the bound of a prefix is the least of the bounds of the prefixes one longer.
-use Rattle.std.proofs.Common.{◌≡◌, ℕ, zero, suc, ◌+◌, ◌<◌, ◌≤◌, Bool, true, false, cond, eqb, ltb, ◌⊎◌, sym, refl, ap, ◌∙◌, subst, ap₂, inl, inr, ⊎_elim, add-one, arith}
-use Rattle.std.proofs.lemmas.Bool.{both_ways, cases_Bool, cases_lt, cases_eq, cases_order, cond-true, cond-false, lt-ltb, le-ltb, eq-eqb, ne_eqb}
+use Rattle.std.proofs.Common.{◌≡◌, ℕ, zero, suc, ◌+◌, ◌<◌, ◌≤◌, true, false, cond, eqb, ltb, sym, refl, ap, ◌∙◌, subst, ap₂, inl, inr, ⊎_elim, add-one, arith}
+use Rattle.std.proofs.lemmas.Bool.{both_ways, cases_Bool, cases_lt, cases_eq, cond-true, cond-false, lt-ltb, eq-eqb, ne_eqb}
 use Rattle.std.proofs.lemmas.Bool.Decides.{nat_tests}
 use Rattle.measures.specs.Laws.{Laws}
 use Rattle.trees.specs.Scales.{Scale, Sound}
 use Rattle.trees.specs.Tasks.{Task, total, put, score, Rooted, cost}
-use Rattle.trees.specs.Minima.{IsLeast, child, hanging, Minimal, term, bound}
+use Rattle.trees.specs.Minima.{IsLeast, child, hanging, term, bound}
 
 module _ {W : Type 0} (σ : Scale W) where
   pub total_none : (f : ℕ → W) → total σ 0 f ≡ σ.nought

@@ -1,8 +1,8 @@
 -- The first plan of a set comes before every other plan of it.
-use Rattle.std.proofs.Common.{◌≡◌, ℕ, zero, suc, ◌+◌, ◌-◌, ◌<◌, ◌≤◌, Bool, true, false, cond, eqb, ltb, ◌⊎◌, sym, refl, ap, ◌∙◌, subst, ap₂, inl, inr, ⊎_elim, arith}
+use Rattle.std.proofs.Common.{◌≡◌, ℕ, zero, suc, ◌+◌, ◌-◌, ◌<◌, ◌≤◌, Bool, true, false, eqb, ◌⊎◌, sym, refl, ap, ◌∙◌, subst, ap₂, inl, inr, ⊎_elim, arith}
 use Rattle.std.proofs.lemmas.Bool.{both_ways, cases_lt, cases_eq, cases_Bool, cases_order, cond-true, cond-false, eq-eqb, ne_eqb}
 use Rattle.trees.specs.Scales.{Scale, Sound}
-use Rattle.trees.specs.Tasks.{Task, put, score, Rooted, Placed, Agree, Earlier, Before, LeastFrom}
+use Rattle.trees.specs.Tasks.{Task, put, score, Rooted, Placed, Agree, Before, LeastFrom}
 use Rattle.trees.specs.Minima.{IsLeast, MinimalFrom, Minimal, bound}
 use Rattle.trees.specs.Subspaces.{Subspace, In, Picked, Found, First, Split}
 use Rattle.trees.proofs.Bounds.{one_step, local, at_end}

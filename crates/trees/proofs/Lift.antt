@@ -1,10 +1,10 @@
 -- The laws of a measure hold of its values with none added as the worst.
-use Rattle.std.proofs.Common.{◌≡◌, Bool, true, false, ◌⊎◌, Some, None, Option, sym, refl, ap, ◌∙◌, inl, inr}
+use Rattle.std.proofs.Common.{◌≡◌, true, ◌⊎◌, Some, None, Option, refl, ap, inl, inr}
 use Rattle.measures.specs.Optional.{both}
 use Rattle.std.proofs.lemmas.Bool.{false≢true}
 use Rattle.measures.specs.Laws.{Laws}
 use Rattle.measures.specs.Meaning.{MeasureMeaning}
-use Rattle.trees.specs.Scales.{Scale, optional, at_most, Sound}
+use Rattle.trees.specs.Scales.{optional, at_most, Sound}
 
 module _ {V : Type 0} (meaning : MeasureMeaning V) (laws : Laws meaning.nought meaning.joined meaning.before) where
   total' : (a b : Option V) → (at_most meaning.before a b ≡ true) ⊎ (at_most meaning.before b a ≡ true)

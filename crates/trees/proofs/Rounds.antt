@@ -1,14 +1,14 @@
 -- One plan given: what is left is parted again.
-use Rattle.std.proofs.Common.{◌≡◌, ℕ, zero, suc, ◌+◌, ◌-◌, ◌<◌, ◌≤◌, Bool, true, false, cond, eqb, ◌⊎◌, List, [], ◌∷◌, sym, refl, ap, ◌∙◌, subst, ap₂, inl, inr, ⊎_elim, arith}
+use Rattle.std.proofs.Common.{◌≡◌, ℕ, ◌+◌, ◌-◌, ◌<◌, ◌≤◌, true, false, cond, eqb, ◌⊎◌, List, [], ◌∷◌, sym, refl, ap, ◌∙◌, subst, ap₂, inl, inr, ⊎_elim, arith}
 use Rattle.std.proofs.lemmas.Bool.{both_ways, cases_lt, cases_eq, cases_Bool, cases_order, cond-true, cond-false, eq-eqb, ne_eqb}
 use Rattle.std.proofs.lemmas.Bool.Decides.{nat_tests as tells}
 use Rattle.trees.specs.Scales.{Scale, Sound}
 use Rattle.trees.specs.Tasks.{Task, score, Rooted, Placed, Agree, Earlier, Before, cost}
 use Rattle.trees.specs.Minima.{Minimal}
-use Rattle.trees.specs.Subspaces.{Subspace, In, Found, First, Split}
+use Rattle.trees.specs.Subspaces.{Subspace, In, First, Split}
 use Rattle.trees.specs.Rounds.{Unlike, AllBefore, InOrder, FirstLeft, NoneLeft, InTurn, nothing, next, Partition, Chosen, Parted}
 use Rattle.trees.proofs.Bounds.{total_same}
-use Rattle.trees.proofs.Firsts.{differ, true_score, itself, others, falls, empty}
+use Rattle.trees.proofs.Firsts.{true_score, itself, others, falls, empty}
 
 module _ {W : Type 0} (σ : Scale W) (sound : Sound σ) (τ : Task W) where
   leq_false : (a b c : W) → σ.leq b a ≡ false → σ.leq b c ≡ true → σ.leq c a ≡ false

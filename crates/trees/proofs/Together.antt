@@ -1,8 +1,6 @@
 -- The statements, put together.
-use Rattle.std.proofs.Common.{◌≡◌, ℕ, ◌+◌, ◌<◌, ◌≤◌, false, ◌⊎◌, inl, inr, ⊎_elim, arith}
+use Rattle.std.proofs.Common.{◌≡◌, false, inl, inr, ⊎_elim, arith}
 use Rattle.trees.specs.Scales.{Scale, Sound}
-use Rattle.trees.specs.Tasks.{Task, Agree}
-use Rattle.trees.specs.Subspaces.{Subspace, In, Split}
 use Rattle.trees.specs.Statements.{BoundIsLeast, FirstComesFirst, SplitLosesNothing, LeastIsFirstLeft, NoneWaiting, SplitKeepsPartition, InTurnInOrder}
 use Rattle.trees.proofs.Firsts.{bound_is_least, differ, true_score, itself, others, falls, empty}
 use Rattle.trees.proofs.Rounds.{part_in, one_place, chosen_foremost, all_none, step, all_before, in_order}

@@ -1,5 +1,5 @@
 -- The least values of subtrees, and the bound of a prefix that is made of them.
-use Rattle.std.specs.Prelude.{◌≡◌, ℕ, ◌+◌, ◌<◌, ◌≤◌, Bool, true, false, cond, ◌&&◌, ◌⊎◌, ◌==◌, nat_lt}
+use Rattle.std.specs.Prelude.{◌≡◌, ℕ, ◌<◌, ◌≤◌, Bool, true, cond, ◌&&◌, ◌⊎◌, ◌==◌, nat_lt}
 use Rattle.trees.specs.Scales.{Scale}
 use Rattle.trees.specs.Tasks.{Task, cost, total}
 

@@ -1,5 +1,5 @@
 -- The plans given in turn, and the waiting subspaces that hold those not given.
-use Rattle.std.specs.Prelude.{◌≡◌, ℕ, ◌+◌, ◌<◌, ◌≤◌, Bool, true, false, ◌⊎◌, List, [], ◌∷◌, ◌≢◌}
+use Rattle.std.specs.Prelude.{◌≡◌, ℕ, ◌+◌, ◌<◌, ◌⊎◌, List, [], ◌∷◌, ◌≢◌}
 use Rattle.trees.specs.Scales.{Scale}
 use Rattle.trees.specs.Tasks.{Task, score, Placed, Agree, Before}
 use Rattle.trees.specs.Subspaces.{Subspace, In, First, Split}

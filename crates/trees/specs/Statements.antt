@@ -1,5 +1,5 @@
 -- What holds of every tree of stops over every scale: the statements that the search rests on.
-use Rattle.std.specs.Prelude.{◌≡◌, ℕ, ◌+◌, ◌<◌, ◌≤◌, ◌⊎◌, List, ◌∷◌, ◌≢◌}
+use Rattle.std.specs.Prelude.{◌≡◌, ℕ, ◌<◌, ◌≤◌, ◌⊎◌, List, ◌∷◌, ◌≢◌}
 use Rattle.trees.specs.Scales.{Scale}
 use Rattle.trees.specs.Tasks.{Task, Rooted, score, Placed, Agree, Before, LeastFrom}
 use Rattle.trees.specs.Minima.{Minimal, bound}

@@ -1,5 +1,5 @@
 -- Subspaces of plans, the first plan of each, and the split by it.
-use Rattle.std.specs.Prelude.{◌≡◌, ℕ, zero, suc, ◌+◌, ◌<◌, ◌≤◌, Bool, true, false, cond, ◌⊎◌, ◌==◌, ◌≢◌, nat_lt}
+use Rattle.std.specs.Prelude.{◌≡◌, ℕ, zero, suc, ◌+◌, ◌<◌, ◌≤◌, Bool, true, false, cond, ◌==◌, ◌≢◌, nat_lt}
 use Rattle.trees.specs.Scales.{Scale}
 use Rattle.trees.specs.Tasks.{Task, Placed, Agree, put}
 use Rattle.trees.specs.Minima.{bound}

@@ -1,5 +1,5 @@
 -- Trees of stops over tables of values: plans, their scores and their order.
-use Rattle.std.specs.Prelude.{◌≡◌, ℕ, zero, suc, ◌+◌, ◌<◌, ◌≤◌, Bool, true, false, cond, ◌⊎◌, ◌==◌}
+use Rattle.std.specs.Prelude.{◌≡◌, ℕ, zero, suc, ◌<◌, true, false, cond, ◌⊎◌, ◌==◌}
 use Rattle.trees.specs.Scales.{Scale}
 
 -- n places and m stops; each stop's parent; a stop's own value at a place (none where the place does not fit); and the

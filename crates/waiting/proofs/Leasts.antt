@@ -1,5 +1,5 @@
 -- The least of the waiting entries has the first plan left.
-use Rattle.std.proofs.Common.{◌≡◌, ℕ, ◌+◌, ◌-◌, ◌*◌, ◌<◌, ◌≤◌, Bool, true, false, List, length, get_or, take, drop, Some, None, Option, sym, refl, ap, ◌∙◌, subst, ap₂, ⊎_elim, arith, MatchOption}
+use Rattle.std.proofs.Common.{◌≡◌, ℕ, ◌+◌, ◌-◌, ◌*◌, ◌<◌, ◌≤◌, Bool, true, List, length, get_or, take, drop, Some, None, Option, sym, ap, ◌∙◌, subst, ap₂, ⊎_elim, arith, MatchOption}
 use Rattle.std.proofs.lemmas.Bool.{cases_lt}
 use Rattle.std.proofs.lemmas.List.{length-drop, length-take-le, get_or-take, get_or-drop}
 use Rattle.least.specs.Order.{FirstLeast}
@@ -14,7 +14,7 @@ use Rattle.trees.proofs.Lift.{lifted}
 use Rattle.trees.proofs.Choosing.{chosen_by, sooner_none}
 use Rattle.trees.proofs.Rounds.{chosen_foremost, all_none}
 use Rattle.cells.specs.declared.cell.Cell.{Cell}
-use Rattle.cells.specs.Cells.{places_of, space_of, entry_before}
+use Rattle.cells.specs.Cells.{places_of, entry_before}
 use Rattle.cells.specs.Tables.{blank, entry_in}
 use Rattle.minima.specs.Tables.{Tables}
 use Rattle.minima.proofs.Ties.{few_stops}

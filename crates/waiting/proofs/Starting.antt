@@ -1,5 +1,5 @@
 -- At the start all plans wait in one entry, and the others are empty.
-use Rattle.std.proofs.Common.{◌≡◌, ℕ, ◌+◌, ◌-◌, ◌*◌, ◌<◌, ◌≤◌, Bool, true, false, List, [], length, get_or, None, Option, sym, refl, ap, ◌∙◌, subst, ⊎_elim, arith}
+use Rattle.std.proofs.Common.{◌≡◌, ℕ, ◌+◌, ◌*◌, ◌<◌, ◌≤◌, false, List, [], get_or, Option, sym, ap, ◌∙◌, subst, ⊎_elim, arith}
 use Rattle.std.proofs.lemmas.Nat.{mul-le}
 use Rattle.std.proofs.lemmas.Bool.{cases_lt, cases_eq}
 use Rattle.measures.specs.Laws.{Laws}
@@ -9,16 +9,16 @@ use Rattle.jobs.specs.Jobs.{stops_of}
 use Rattle.sets.specs.Sets.{has_bit}
 use Rattle.trees.specs.Scales.{optional}
 use Rattle.trees.specs.Tasks.{Task}
-use Rattle.trees.specs.Subspaces.{In, First}
+use Rattle.trees.specs.Subspaces.{First}
 use Rattle.trees.specs.Rounds.{Partition}
 use Rattle.trees.proofs.Lift.{lifted}
 use Rattle.trees.proofs.Rounds.{start}
 use Rattle.cells.specs.declared.cell.Cell.{Cell}
 use Rattle.cells.specs.declared.cell.Entry.{Entry}
-use Rattle.cells.specs.Cells.{places_of, space_of}
+use Rattle.cells.specs.Cells.{space_of}
 use Rattle.cells.specs.Tables.{blank, entry_in}
 use Rattle.minima.specs.Tables.{Tables}
-use Rattle.waiting.specs.Queues.{waiting_in, row_start, NoSpace, Safe, Queue}
+use Rattle.waiting.specs.Queues.{waiting_in, NoSpace, Safe, Queue}
 use Rattle.waiting.proofs.Keeping.{same_entry}
 
 pub some_room : (k m : ℕ) → 1 ≤ k → 1 ≤ m → 1 ≤ k * m

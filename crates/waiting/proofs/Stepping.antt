@@ -1,5 +1,5 @@
 -- The step of the partition, from what the calls of the split say.
-use Rattle.std.proofs.Common.{◌≡◌, ℕ, ◌+◌, ◌-◌, ◌*◌, ◌<◌, ◌≤◌, Bool, true, false, ◌||◌, eqb, ◌⊎◌, List, ◌∷◌, length, get_or, Option, sym, refl, ap, ◌∙◌, subst, inl, inr, ⊎_elim, arith}
+use Rattle.std.proofs.Common.{◌≡◌, ℕ, ◌+◌, ◌-◌, ◌*◌, ◌<◌, ◌≤◌, ◌||◌, eqb, List, ◌∷◌, get_or, Option, sym, refl, ap, ◌∙◌, subst, ⊎_elim, arith}
 use Rattle.std.proofs.lemmas.Nat.{mul-le}
 use Rattle.std.proofs.lemmas.Bool.{cases_lt, cases_eq, eqb-false, ne_eqb, or_parts, or_from}
 use Rattle.measures.specs.Laws.{Laws}
@@ -9,8 +9,8 @@ use Rattle.jobs.specs.Jobs.{stops_of}
 use Rattle.sets.specs.Sets.{has_bit}
 use Rattle.trees.specs.Scales.{optional}
 use Rattle.trees.specs.Tasks.{Task, Agree}
-use Rattle.trees.specs.Subspaces.{Subspace, In, First, Split}
-use Rattle.trees.specs.Rounds.{Partition, Chosen, Parted}
+use Rattle.trees.specs.Subspaces.{First, Split}
+use Rattle.trees.specs.Rounds.{Partition, Chosen}
 use Rattle.trees.proofs.Lift.{lifted}
 use Rattle.trees.proofs.Rounds.{step}
 use Rattle.cells.specs.declared.cell.Cell.{Cell}

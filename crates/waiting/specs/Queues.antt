@@ -1,13 +1,13 @@
 -- The waiting subspaces in cells. For m stops and k plans that are wanted, k x m cells stand from cell `base` on: first
 -- the head of each of k rows, then the other entries of the rows, m - 1 in each. At the start all plans wait in the head
 -- of row 0; every plan that is given opens one more row, for the parts of its subspace behind its depth.
-use Rattle.std.specs.Prelude.{◌≡◌, ℕ, ◌+◌, ◌-◌, ◌*◌, ◌<◌, ◌≤◌, Bool, true, List, None, Option, ◌==◌, ◌≢◌}
+use Rattle.std.specs.Prelude.{◌≡◌, ℕ, ◌+◌, ◌-◌, ◌*◌, ◌<◌, ◌≤◌, List, None, Option, ◌==◌, ◌≢◌}
 use Rattle.sets.specs.Sets.{has_bit}
 use Rattle.trees.specs.Tasks.{Agree}
 use Rattle.trees.specs.Subspaces.{Subspace}
 use Rattle.cells.specs.declared.cell.Cell.{Cell}
 use Rattle.cells.specs.declared.cell.Entry.{Entry}
-use Rattle.cells.specs.Cells.{places_of, space_of, entry_before}
+use Rattle.cells.specs.Cells.{places_of, space_of}
 use Rattle.cells.specs.Tables.{entry_in}
 
 -- the waiting subspaces, counted from the first head on

@@ -1,3 +1,5 @@
+#![tactic(auto)]
+
 pub mod opening;
 pub mod parts;
 pub mod picking;

@@ -1,4 +1,4 @@
-use Rattle.std.proofs.Common.{◌≡◌, ◌+◌, ◌<◌, length, take, Ok, sym, refl, ap, ◌∙◌, arith, rules}
+use Rattle.std.proofs.Common.{◌+◌, ◌<◌, length, take, Ok, sym, ap, ◌∙◌, arith, rules}
 use Rattle.texts.specs.Cut.{rows}
 use Rattle.texts.specs.Rows.{read_rows}
 use Rattle.texts.proofs.Steps.{row_unended, row_refused, row_read}

@@ -1,4 +1,4 @@
-use Rattle.std.proofs.Common.{◌≡◌, sym, ap, ◌∙◌, rules}
+use Rattle.std.proofs.Common.{rules}
 use Rattle.texts.specs.Cut.{rows}
 use Rattle.texts.specs.Rows.{read_rows}
 use Rattle.texts.proofs.Steps.{turned, refused_is}

@@ -1,4 +1,4 @@
-use Rattle.std.proofs.Common.{◌≡◌, sym, ◌∙◌, arith}
+use Rattle.std.proofs.Common.{sym, ◌∙◌, arith}
 use Rattle.cells.specs.Cells.{places_of}
 use Rattle.cells.specs.Comparing.{less_here, more_here, same_here, all_compared}
 use Rattle.cells.proofs.order.not_later.Goals as goal

@@ -1,4 +1,4 @@
-use Rattle.std.proofs.Common.{◌≡◌, ℕ, ◌-◌}
+use Rattle.std.proofs.Common.{◌≡◌, ◌-◌}
 use Rattle.trees.specs.Subspaces.{not_later}
 use Rattle.cells.specs.Cells.{places_of}
 use Rattle.cells.proofs.order.not_later.Given as goal

@@ -1,4 +1,4 @@
-use Rattle.std.proofs.Common.{◌≡◌, ◌+◌, length, sym, ap, ◌∙◌, rules}
+use Rattle.std.proofs.Common.{◌+◌, length, sym, ap, ◌∙◌, rules}
 use Rattle.jobs.specs.Jobs.{drafted}
 use Rattle.texts.specs.Cut.{rows}
 use Rattle.texts.specs.Means.{rows_left, fields_left, spot_of}

@@ -1,4 +1,4 @@
-use Rattle.std.proofs.Common.{◌≡◌, ℕ, ◌+◌, ◌<◌, sym, refl, ap, ◌∙◌, subst, ap₂, arith}
+use Rattle.std.proofs.Common.{◌≡◌, ℕ, ◌<◌, sym, refl, ◌∙◌, ap₂, arith}
 use Rattle.measures.specs.Optional.{both}
 use Rattle.jobs.specs.Jobs.{stops_of}
 use Rattle.trees.specs.Scales.{optional}

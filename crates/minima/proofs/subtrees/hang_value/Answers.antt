@@ -1,4 +1,4 @@
-use Rattle.std.proofs.Common.{◌≡◌, ℕ, ◌+◌, cond, Option, sym, refl, ap, ◌∙◌, subst, ap₂, arith, rules}
+use Rattle.std.proofs.Common.{cond, Option, sym, refl, ap, ◌∙◌, subst, ap₂}
 use Rattle.measures.specs.Optional.{both}
 use Rattle.trees.specs.Scales.{optional, at_most}
 use Rattle.trees.specs.Minima.{IsLeast}

@@ -1,4 +1,4 @@
-use Rattle.std.proofs.Common.{◌≡◌, ℕ, ◌+◌}
+use Rattle.std.proofs.Common.{◌≡◌, ◌+◌}
 use Rattle.jobs.specs.Jobs.{stops_of}
 use Rattle.trees.specs.Scales.{optional}
 use Rattle.trees.specs.Tasks.{total, put}

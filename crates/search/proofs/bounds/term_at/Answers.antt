@@ -1,4 +1,4 @@
-use Rattle.std.proofs.Common.{◌≡◌, ℕ, ◌+◌, ◌*◌, ◌<◌, ◌≤◌, length, Some, Option, sym, ap, ◌∙◌, subst, ap₂, arith}
+use Rattle.std.proofs.Common.{ℕ, ◌+◌, ◌*◌, ◌<◌, ◌≤◌, length, Some, Option, sym, ap, ◌∙◌, subst, ap₂, arith}
 use Rattle.jobs.specs.Jobs.{stops_of}
 use Rattle.trees.specs.Tasks.{put}
 use Rattle.cells.specs.Cells.{places_of}

@@ -1,12 +1,8 @@
-use Rattle.std.proofs.Common.{◌≡◌, ℕ, ◌+◌, true, false, Option, sym, refl, ap, ◌∙◌, subst, inl, inr, ⊎_elim}
+use Rattle.std.proofs.Common.{◌+◌, sym, refl, ap, ◌∙◌, subst, inl, inr, ⊎_elim}
 use Rattle.sets.specs.Sets.{has_bit}
 use Rattle.trees.specs.Scales.{at_most, optional}
-use Rattle.trees.specs.Tasks.{put}
-use Rattle.trees.specs.Minima.{bound}
-use Rattle.trees.specs.Subspaces.{Picked}
 use Rattle.trees.proofs.Lift.{lifted}
 use Rattle.trees.proofs.Picks.{picked_skip, picked_keep, picked_move}
-use Rattle.cells.specs.Cells.{places_of}
 use Rattle.search.specs.declared.choice.Choice.{Choice}
 use Rattle.search.specs.Places.{Picking}
 use Rattle.search.proofs.Filling.{moved}

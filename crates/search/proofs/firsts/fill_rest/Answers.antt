@@ -1,6 +1,5 @@
-use Rattle.std.proofs.Common.{◌≡◌, ℕ, ◌+◌, ◌<◌, ◌≤◌, length, sym, refl, ap, ◌∙◌, subst, arith}
+use Rattle.std.proofs.Common.{◌≡◌, ℕ, ◌+◌, ◌<◌, ◌≤◌, length, ◌∙◌, subst, arith}
 use Rattle.jobs.specs.Jobs.{stops_of}
-use Rattle.cells.specs.Cells.{places_of}
 use Rattle.search.specs.Places.{Finding}
 use Rattle.search.proofs.Filling.{rest_more, set_agree, set_small}
 use Rattle.search.proofs.firsts.fill_rest.Goals as goal

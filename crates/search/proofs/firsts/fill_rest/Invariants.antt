@@ -1,4 +1,4 @@
-use Rattle.std.proofs.Common.{◌≡◌, ℕ, ◌+◌, ◌<◌, length, None, Option}
+use Rattle.std.proofs.Common.{◌≡◌, ℕ, ◌+◌, ◌<◌, None, Option}
 use Rattle.jobs.specs.Jobs.{stops_of}
 use Rattle.trees.specs.Tasks.{Task, Agree}
 use Rattle.cells.specs.Cells.{places_of}

@@ -1,4 +1,4 @@
-use Rattle.std.proofs.Common.{◌≡◌, ℕ, ◌+◌, ◌<◌, length, set, sym, refl, ap, ◌∙◌, subst, arith}
+use Rattle.std.proofs.Common.{ℕ, ◌<◌, length, refl, ◌∙◌, arith}
 use Rattle.minima.proofs.Ties.{few_stops}
 use Rattle.search.proofs.Filling.{first_of, first_none, top_start, set_agree, set_small}
 use Rattle.search.proofs.firsts.first_plan.Goals as goal

@@ -1,4 +1,4 @@
-use Rattle.std.proofs.Common.{arith, rules}
+use Rattle.std.proofs.Common.{arith}
 use Rattle.texts.proofs.Values.{digits_more, digits_low, digits_high, digits_end, decimal_more, decimal_end, power_more, no_digits, is_number_lem, above, reads}
 use Rattle.texts.proofs.number.number.Goals as goal
 

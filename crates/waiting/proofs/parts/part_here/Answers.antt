@@ -1,4 +1,4 @@
-use Rattle.std.proofs.Common.{◌≡◌, ℕ, ◌<◌, eqb, length, sym, ap, ◌∙◌, subst, arith}
+use Rattle.std.proofs.Common.{ℕ, ◌<◌, eqb, length, sym, ap, ◌∙◌, subst, arith}
 use Rattle.jobs.specs.Jobs.{stops_of}
 use Rattle.sets.specs.Sets.{has_bit}
 use Rattle.sets.specs.declared.PlaceSet.{PlaceSet}

@@ -1,4 +1,4 @@
-use Rattle.std.proofs.Common.{◌≡◌, ℕ, ◌+◌, ◌-◌, ◌<◌, ◌≤◌, length, sym, refl, ap, ◌∙◌, subst, arith}
+use Rattle.std.proofs.Common.{◌≡◌, ℕ, ◌+◌, ◌<◌, length, sym, ◌∙◌, subst, arith}
 use Rattle.jobs.specs.Jobs.{stops_of}
 use Rattle.trees.specs.Scales.{optional}
 use Rattle.trees.specs.Subspaces.{First}

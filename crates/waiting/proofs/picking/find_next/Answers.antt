@@ -1,4 +1,4 @@
-use Rattle.std.proofs.Common.{◌≡◌, ℕ, ◌+◌, ◌*◌, ◌<◌, length, None, Option, sym, refl, ap, ◌∙◌, subst, arith}
+use Rattle.std.proofs.Common.{◌≡◌, ℕ, ◌+◌, ◌*◌, ◌<◌, length, None, ap, ◌∙◌, arith}
 use Rattle.jobs.specs.Jobs.{stops_of}
 use Rattle.trees.specs.Scales.{optional}
 use Rattle.trees.specs.Rounds.{Chosen, FirstLeft, NoneLeft}

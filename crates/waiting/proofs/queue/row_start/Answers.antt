@@ -1,4 +1,4 @@
-use Rattle.std.proofs.Common.{◌≡◌, refl, arith}
+use Rattle.std.proofs.Common.{refl, arith}
 use Rattle.std.proofs.lemmas.Nat.{mul-le}
 use Rattle.waiting.proofs.Stepping.{row_ends}
 use Rattle.waiting.proofs.queue.row_start.Goals as goal

@@ -1,4 +1,4 @@
-use Rattle.std.proofs.Common.{arith, rules}
+use Rattle.std.proofs.Common.{rules}
 use Rattle.texts.proofs.Cuts.{field_step}
 use Rattle.texts.proofs.reader.steps.field_end.Goals as goal
 

@@ -1,4 +1,4 @@
-use Rattle.std.proofs.Common.{◌+◌, ◌<◌, ◌≤◌, true, ◌∷◌, length, drop, sym, ap, ◌∙◌, arith, rules}
+use Rattle.std.proofs.Common.{◌+◌, ◌≤◌, true, ◌∷◌, drop, sym, ap, ◌∙◌, arith}
 use Rattle.texts.specs.Cut.{rows}
 use Rattle.texts.proofs.Cuts.{rows_none, rows_closed, rows_open, line_fields}
 use Rattle.texts.proofs.reader.steps.line_end.Goals as goal
