@@ -1,6 +1,6 @@
 """Writes the cases of the program plan_cases and the lines that it must print for them.
 
-    python3 tools/plan_cases.py
+    python3 unfinished/tools/plan_cases.py
 
 Each case is a quarter and a job. The plans are found here by laying out every placement, and the rides by making
 walks longer leg by leg, so nothing of the proved search is done again. Nothing is random: the same cases come out
@@ -12,7 +12,7 @@ from pathlib import Path
 
 TOP = 4294967295
 CELLS = 912
-FOLDER = Path(__file__).resolve().parent.parent / "crates" / "plan_cases"
+FOLDER = Path(__file__).resolve().parent.parent / "plan_cases"
 
 
 # ---- the three measures ----
