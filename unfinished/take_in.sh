@@ -12,3 +12,4 @@ for name in bounds fitting leaders plan_cases quarters tables turns; do
 done
 sed -e 's|parent.parent / "plan_cases"|parent.parent / "crates" / "plan_cases"|' -e 's|unfinished/tools/|tools/|' unfinished/tools/plan_cases.py > tools/plan_cases.py
 rm -r unfinished
+echo "README.md, docs/PORT.md and docs/DECISIONS.md still name unfinished/: say there what stands now"
