@@ -1,7 +1,7 @@
 -- What a waiting subspace in a cell stands for, and the order of such cells.
 use Rattle.std.specs.Prelude.{ℕ, Bool, List, [], None, Option, slice_index}
 use Rattle.sets.specs.Sets.{has_bit}
-use Rattle.trees.specs.Scales.{at_most}
+use Rattle.measures.specs.Scales.{at_most}
 use Rattle.trees.specs.Subspaces.{Subspace, sooner}
 use Rattle.cells.specs.declared.cell.Entry.{Entry}
 

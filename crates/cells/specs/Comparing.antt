@@ -3,7 +3,7 @@ use Rattle.std.specs.Prelude.{◌≡◌, ℕ, ◌+◌, ◌-◌, ◌<◌, ◌≤�
 use Rattle.std.proofs.Common.{ap, ◌∙◌, arith}
 use Rattle.measures.specs.Laws.{Laws}
 use Rattle.measures.specs.Meaning.{MeasureMeaning}
-use Rattle.trees.specs.Scales.{optional}
+use Rattle.measures.specs.Scales.{optional}
 use Rattle.trees.specs.Subspaces.{not_later}
 use Rattle.trees.proofs.Lift.{lifted}
 use Rattle.trees.proofs.Choosing.{sooner_total, sooner_trans, later_less, later_more, later_same, later_none}

@@ -1,5 +1,5 @@
-ghost use Rattle.std.specs.Prelude.{◌≡◌, ℕ, Bool};
-ghost use Rattle.trees.specs.Scales.{at_most};
+ghost use Rattle.std.specs.Prelude.{◌≡◌};
+ghost use Rattle.measures.specs.Scales.{at_most};
 ghost use Rattle.trees.specs.Subspaces.{not_later};
 ghost use Rattle.cells.specs.Cells.{places_of, entry_before};
 ghost use Rattle.cells.specs.Comparing.{entry_total, entry_trans};
@@ -21,7 +21,7 @@ pub fn at_most<M: Measure>(a: Option<M::Value>, b: Option<M::Value>) -> bool
 }
 
 // Whether these places are the same as those, or have the smaller one at the first stop where they differ.
-pub fn not_later(a: &[u8; 12], b: &[u8; 12]) -> bool
+fn not_later(a: &[u8; 12], b: &[u8; 12]) -> bool
     ensures { result ≡ not_later 12 0 (places_of a.now) (places_of b.now) }
 {
     for i in 0..12 {

@@ -1,5 +1,5 @@
 ghost use Rattle.std.specs.Prelude.{◌≡◌, ◌≤◌, length, IfOk, MatchResult};
-ghost use Rattle.books.specs.Books.{room_in, over, counts as countsOf};
+ghost use Rattle.books.specs.Books.{room_in, over};
 ghost use Rattle.jobs.specs.Jobs.{stops_of};
 ghost use Rattle.console.specs.declared.inputs.InputRefusal.TheVariants.{Limit, Text};
 ghost use Rattle.console.specs.Inputs.{number_of, line_of, field_of, book_in, job_in, inputs_of};

@@ -9,12 +9,13 @@ use Rattle.streets.specs.Meaning.{StreetMeaning, Sound}
 use Rattle.streets.specs.Sounds.{list_sound}
 use Rattle.plans.specs.Walks.{direct, RideOf}
 use Rattle.plans.specs.Job.{JobMeaning, Tree}
-use Rattle.plans.specs.Plans.{Plan, Score, Same, Earlier, Before, by_score, by_places}
+use Rattle.plans.specs.Plans.{Plan, Score, Before, by_score, by_places}
 use Rattle.plans.specs.Computed.{ride_from, score_from}
 use Rattle.plans.specs.Laws.{ScoreLaws}
 use Rattle.plans.proofs.Rides.{ride_laws_lem}
 use Rattle.plans.proofs.Scores.{score_laws_lem}
 use Rattle.examples.specs.Cases.{Measured, by_time, by_longest, by_climb, ValueBy, meaning_by, street, Stop, job_of, Entry, places_of, All, Some_of, Chained, InOrder, Case, joins, direct_is, ride_is, plans_are, Says}
+use Rattle.sets.specs.Placements.{Same, Earlier}
 
 -- lists
 abbrev every : {X : Type 0} → (X → Bool) → List X → Bool

@@ -12,7 +12,8 @@ use Rattle.streets.specs.Lists.{list_meaning}
 use Rattle.streets.specs.declared.legs.LegRecord.{LegRecord}
 use Rattle.plans.specs.Walks.{direct, RideOf}
 use Rattle.plans.specs.Job.{JobMeaning}
-use Rattle.plans.specs.Plans.{Plan, Score, Same, Before}
+use Rattle.plans.specs.Plans.{Plan, Score, Before}
+use Rattle.sets.specs.Placements.{Same}
 
 -- the three measures
 pub data Measured : Type 0 where

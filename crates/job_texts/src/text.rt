@@ -1,6 +1,6 @@
 ghost use Rattle.std.specs.Prelude.{◌≡◌, MatchResult};
 ghost use Rattle.texts.specs.Cut.{rows};
-ghost use Rattle.jobs.specs.Jobs.{drafted, stops_of};
+ghost use Rattle.jobs.specs.Jobs.{stops_of};
 ghost use Rattle.texts.specs.Rows.{read_rows, read_text};
 ghost use Rattle.job_texts.specs.Texts.{job_lines, read_job, drafted_in, tally};
 

@@ -10,6 +10,16 @@ use Rattle.jobs.specs.declared.stops.Refused.TheVariants.{Full, WrongTie, Empty}
 abbrev pub any_stop : Stop
 any_stop = record { kind = 0; tie = None }
 
+-- how a stop hangs on its parent; the root, and what is no stop, has no tie
+abbrev pub tie_of : Option Stop → Option Tie
+tie_of (Some stop) = stop.tie
+tie_of None = None
+
+-- the parent by a tie, 0 without one
+abbrev pub parent_of : Option Tie → ℕ
+parent_of (Some tie) = tie.parent
+parent_of None = 0
+
 -- stop 0 alone has no tie; any other hangs on a stop with a smaller number
 abbrev pub tied : ℕ → Option Tie → Bool
 tied s None = s == 0

@@ -4,6 +4,7 @@ pub mod Time
 pub mod Longest
 pub mod Climb
 pub mod Optional
+pub mod Scales
 pub mod Climbs
 pub mod Same
 pub mod Numbers

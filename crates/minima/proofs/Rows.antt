@@ -9,15 +9,17 @@ use Rattle.measures.specs.Meaning.{MeasureMeaning}
 use Rattle.jobs.specs.declared.stops.Stop.{Stop}
 use Rattle.jobs.specs.declared.job.Job.{Job}
 use Rattle.jobs.specs.Jobs.{stops_of}
-use Rattle.trees.specs.Scales.{Scale, optional}
-use Rattle.trees.specs.Tasks.{Task, cost, total}
+use Rattle.measures.specs.Scales.{Scale, optional, total}
+use Rattle.trees.specs.Tasks.{Task, cost, LeastOf}
 use Rattle.trees.specs.Minima.{IsLeast, child, hanging, Minimal}
+use Rattle.trees.specs.Subtrees.{subtree_value, SubtreeLeast}
 use Rattle.trees.proofs.Lift.{lifted}
 use Rattle.trees.proofs.Bounds.{total_same, least_same}
+use Rattle.trees.proofs.Together.{minima}
 use Rattle.cells.specs.declared.cell.Cell.{Cell}
-use Rattle.cells.specs.Tables.{blank, leg_in, ride_in, own_in, best_in, hang_in, Stays}
+use Rattle.tables.specs.Tables.{blank, leg_in, ride_in, own_in, best_in, hang_in, Stays}
 use Rattle.minima.specs.Tables.{child_in, by_tie, tie_in, link_in, hanging_in, RowIn, Holds, task_in}
-use Rattle.minima.proofs.Ties.{both_below, root_itself}
+use Rattle.jobs.proofs.Ties.{both_below, root_itself}
 
 -- two cells of stops at places are the same one only for the same stop and place
 pub same_stop : (n s q t r : ℕ) → q < n → r < n → n * n + (s * n + q) ≡ n * n + (t * n + r) → s ≡ t
@@ -53,7 +55,7 @@ module _ {M V : Type 0} where
     own_stays f s q = f.owns (n * n + (s * n + q))
 
     pub link_stays : Stays old new → (stops : List Stop) (s p q : ℕ) → link_in new n stops s p q ≡ link_in old n stops s p q
-    unfolding link_in leg_in ride_in
+    unfolding leg_in ride_in
     link_stays f stops s p q = ap₂ (by_tie (tie_in stops s)) (f.legs (p * n + q)) (f.rides (p * n + q))
 
     pub hang_stays : ((i : ℕ) → (get_or new i blank).hang ≡ (get_or old i blank).hang) → (s p : ℕ) → hang_in new n s p ≡ hang_in old n s p
@@ -141,10 +143,13 @@ module _ {M V : Type 0} where
       hanging_is s q = total_same (optional meaning) (lifted meaning laws) (length (stops_of j)) _ _ (λ c l. ap (λ p. cond (ltb 0 c && eqb p s) (hang_in cells n c q) (Some meaning.nought)) (holds.parents c l))
           ∙ ap (λ m. total (optional meaning) m (λ c. cond (child τ s c) (hang_in cells n c q) (Some meaning.nought))) (sym holds.size)
 
+      pub bests_are : ((s : ℕ) → s < length (stops_of j) → RowIn meaning cells n (stops_of j) s) → (s q : ℕ) → s < length (stops_of j) → q < n → best_in cells n s q ≡ both meaning.joined (τ.own s q) (hanging (optional meaning) τ (hang_in cells n) s q)
+      bests_are rows s q l h = (rows s l).best q h ∙ ap₂ (both meaning.joined) (holds.owns s q l h) (hanging_is s q)
+
       -- the rows are the minima of the task
       pub minimal_is : ((s : ℕ) → s < length (stops_of j) → RowIn meaning cells n (stops_of j) s) → Minimal (optional meaning) τ (hang_in cells n)
       unfolding cost
-      minimal_is rows s p z l h = let e = holds.size in let d = holds.count in let l' : s < length (stops_of j) = omega arith in let h' : p < n = omega arith in
+      minimal_is rows s p f l h = let z : 0 < s = omega arith in let e = holds.size in let d = holds.count in let l' : s < length (stops_of j) = omega arith in let h' : p < n = omega arith in
           subst (λ (k : ℕ). IsLeast (optional meaning) k (λ q. both meaning.joined (cost (optional meaning) τ s p q) (hanging (optional meaning) τ (hang_in cells n) s q)) (hang_in cells n s p)) (sym d)
           (least_same (optional meaning) (lifted meaning laws) n _ _ _ _ (each s p z l' h') refl ((rows s l').hang p h'))
         where
@@ -153,3 +158,11 @@ module _ {M V : Type 0} where
           each s p z l h q k = ap (λ v. both meaning.joined v (hanging (optional meaning) τ (hang_in cells n) s q)) (cond-false (eqb s 0) (τ.own s q) _ (ne_eqb s 0 (λ e. omega arith)) ∙ (lifted meaning laws).laws.comm (τ.own s q) (τ.link s p q))
               ∙ (lifted meaning laws).laws.assoc (τ.link s p q) (τ.own s q) (hanging (optional meaning) τ (hang_in cells n) s q)
               ∙ ap₂ (both meaning.joined) (sym (holds.links s p q z l h k)) (ap₂ (both meaning.joined) (sym (holds.owns s q l k)) (sym (hanging_is s q)) ∙ sym ((rows s l).best q k))
+
+      -- and so each is the least of its subtree over all places
+      pub least_is : ((s : ℕ) → s < length (stops_of j) → RowIn meaning cells n (stops_of j) s) → (s : ℕ) → s < length (stops_of j) → SubtreeLeast (optional meaning) τ s (best_in cells n s) (hang_in cells n s)
+      least_is rows s l = let e = holds.size in let d = holds.count in let law = minima (optional meaning) (lifted meaning laws) τ (hang_in cells n) holds.rooted (minimal_is rows) s (omega arith) in record {
+        at = λ q h. let k : q < n = omega arith in
+            subst (λ (v : Option V). LeastOf (optional meaning) τ (λ Q. Q s ≡ q) (subtree_value (optional meaning) τ s) v) (sym ((rows s l).best q k ∙ ap₂ (both meaning.joined) (holds.owns s q l k) (hanging_is s q))) (law.at q h);
+        under = law.under;
+      }

@@ -3,32 +3,23 @@ use Rattle.std.specs.Prelude.{◌≡◌, ℕ, ◌+◌, ◌*◌, ◌<◌, ◌≤�
 use Rattle.measures.specs.Optional.{both}
 use Rattle.std.specs.List.{slice_get}
 use Rattle.measures.specs.Meaning.{MeasureMeaning}
+use Rattle.jobs.specs.Trees.{tie_of, parent_of}
 use Rattle.jobs.specs.declared.stops.Stop.{Stop}
 use Rattle.jobs.specs.declared.stops.Tie.{Tie}
 use Rattle.jobs.specs.declared.stops.Link.{Link}
 use Rattle.jobs.specs.declared.stops.Link.TheVariants.{Direct, Ride}
-use Rattle.trees.specs.Scales.{optional}
-use Rattle.trees.specs.Tasks.{Task, Rooted, total}
-use Rattle.trees.specs.Minima.{IsLeast, Minimal}
+use Rattle.measures.specs.Scales.{optional, total}
+use Rattle.trees.specs.Tasks.{Task, Rooted}
+use Rattle.trees.specs.Minima.{IsLeast, hanging, Minimal}
 use Rattle.cells.specs.declared.cell.Cell.{Cell}
-use Rattle.cells.specs.Tables.{leg_in, ride_in, own_in, best_in, hang_in}
-
--- the tie of a stop, none past the last
-abbrev pub tie_of : Option Stop → Option Tie
-tie_of (Some stop) = stop.tie
-tie_of None = None
+use Rattle.tables.specs.Tables.{leg_in, ride_in, own_in, best_in, hang_in}
 
 -- the tie of stop s
 abbrev pub tie_in : List Stop → ℕ → Option Tie
 tie_in stops s = tie_of (slice_get stops s)
 
--- the parent by a tie, 0 without one
-abbrev pub parent_of : Option Tie → ℕ
-parent_of (Some tie) = tie.parent
-parent_of None = 0
-
 -- the parent of stop s; the root counts as its own
-unfoldable pub parent_in : List Stop → ℕ → ℕ
+abbrev pub parent_in : List Stop → ℕ → ℕ
 parent_in stops s = parent_of (tie_in stops s)
 
 -- stop c hangs on stop s
@@ -46,7 +37,7 @@ by_tie (Some tie) leg ride = by_link tie.link leg ride
 by_tie None leg ride = None
 
 -- the value of stop s's link from place p to place q
-unfoldable pub link_in : {M V : Type 0} → List (Cell M V) → ℕ → List Stop → ℕ → ℕ → ℕ → Option V
+abbrev pub link_in : {M V : Type 0} → List (Cell M V) → ℕ → List Stop → ℕ → ℕ → ℕ → Option V
 link_in cells n stops s p q = by_tie (tie_in stops s) (leg_in cells n p q) (ride_in cells n p q)
 
 -- there are at most 64 places, and cells enough for the tables
@@ -77,8 +68,10 @@ pub record RowIn {M V : Type 0} (meaning : MeasureMeaning V) (cells : List (Cell
   pub best : (q : ℕ) → q < n → best_in cells n s q ≡ both meaning.joined (own_in cells n s q) (hanging_in meaning cells n stops s q)
   pub hang : (p : ℕ) → p < n → IsLeast (optional meaning) n (λ q. both meaning.joined (link_in cells n stops s p q) (best_in cells n s q)) (hang_in cells n s p)
 
--- the cells hold the task τ and the minima H of its subtrees
+-- the cells hold the task τ and the minima of its subtrees: H from each place of a stop's parent, and at each place of the
+-- stop itself its own value joined to what hangs on it
 pub record Tables {M V : Type 0} (meaning : MeasureMeaning V) (cells : List (Cell M V)) (n : ℕ) (stops : List Stop) (τ : Task (Option V)) (H : ℕ → ℕ → Option V) : Type 0 where
   pub holds : Holds cells n stops τ
   pub hangs : (s p : ℕ) → 0 < s → s < length stops → p < n → hang_in cells n s p ≡ H s p
+  pub bests : (s q : ℕ) → s < length stops → q < n → best_in cells n s q ≡ both meaning.joined (τ.own s q) (hanging (optional meaning) τ H s q)
   pub minimal : Minimal (optional meaning) τ H

@@ -1,13 +1,13 @@
-ghost use Rattle.std.specs.Prelude.{◌≡◌, ℕ, ◌+◌, ◌*◌, ◌<◌, ◌≤◌, ◌&&◌, length};
+ghost use Rattle.std.specs.Prelude.{◌≡◌, ◌*◌, ◌<◌, ◌≤◌, ◌&&◌, length};
 ghost use Rattle.jobs.specs.Jobs.{stops_of};
-ghost use Rattle.cells.specs.Tables.{leg_in, ride_in};
-ghost use Rattle.minima.specs.Tables.{by_link, tie_in, parent_in, link_in, child_in, Ready};
+ghost use Rattle.tables.specs.Tables.{leg_in, ride_in};
+ghost use Rattle.minima.specs.Tables.{by_link, tie_in, parent_in, link_in, child_in};
 
 use cells::cell::Cell;
-use cells::tables::{leg_at, ride_at};
 use jobs::job::Job;
 use jobs::stops::{Link, Tie};
 use measures::Measure;
+use tables::access::{leg_at, ride_at};
 
 // How a stop hangs on its parent.
 pub fn tie_at(job: &Job, s: usize) -> Option<Tie>

@@ -1,19 +1,20 @@
-ghost use Rattle.std.specs.Prelude.{◌≡◌, ℕ, ◌+◌, ◌*◌, ◌<◌, ◌≤◌, length, if◌then◌else◌, Some, Option, ◌≢◌, slice_index_or};
+ghost use Rattle.std.specs.Prelude.{◌≡◌, ℕ, ◌<◌, length, if◌then◌else◌, Some, Option, ◌≢◌, slice_index_or};
 ghost use Rattle.measures.specs.Optional.{both};
 ghost use Rattle.jobs.specs.Jobs.{stops_of};
-ghost use Rattle.trees.specs.Scales.{at_most, optional};
+ghost use Rattle.measures.specs.Scales.{at_most, optional};
 ghost use Rattle.trees.specs.Tasks.{Task};
 ghost use Rattle.trees.specs.Minima.{IsLeast};
-ghost use Rattle.cells.specs.Tables.{blank, own_in, best_in, hang_in, Stays};
+ghost use Rattle.trees.specs.Subtrees.{SubtreeLeast};
+ghost use Rattle.tables.specs.Tables.{blank, own_in, best_in, hang_in, Stays};
 ghost use Rattle.minima.specs.Tables.{child_in, link_in, Ready, hanging_in, RowIn, Holds, task_in, Tables};
 
 use crate::links::{is_child, link_at};
 use cells::cell::Cell;
 use cells::order::at_most;
-use cells::tables::{best_at, hang_at, own_at, set_best, set_hang, stop_place};
 use jobs::job::Job;
 use measures::Measure;
 use measures::optional::join_options;
+use tables::access::{best_at, hang_at, own_at, set_best, set_hang, stop_place};
 
 // The lesser of two values, the first of equals.
 fn lesser<M: Measure>(a: Option<M::Value>, b: Option<M::Value>) -> Option<M::Value>
@@ -115,18 +116,28 @@ fn fill_hang<M: Measure>(cells: &mut [Cell<M, M::Value>], n: usize, job: &Job, s
     }
 }
 
-// Fills in the minima of all subtrees, from the last stop to the first.
+// Fills in the minima of all m stops, from the last one to the first.
+fn fill_rows<M: Measure>(cells: &mut [Cell<M, M::Value>], n: usize, job: &Job, m: usize)
+    requires { Ready cells.old n (stops_of job.now) × (m ≡ length (stops_of job.now)) }
+    ensures stays { Stays cells.old cells.new }
+    ensures rows { (s : ℕ) → s < length (stops_of job.now) → RowIn M.Measure.meaning cells.new n (stops_of job.now) s }
+{
+    for i in 0..m {
+        let s = m - 1 - i;
+        fill_best::<M>(cells, n, job, s);
+        fill_hang::<M>(cells, n, job, s);
+    }
+}
+
+// Fills in the minima of all subtrees.
 pub fn fill_minima<M: Measure>(cells: &mut [Cell<M, M::Value>], n: usize, job: &Job)
     requires { Ready cells.old n (stops_of job.now) }
     ensures stays { Stays cells.old cells.new }
     ensures rows { (s : ℕ) → s < length (stops_of job.now) → RowIn M.Measure.meaning cells.new n (stops_of job.now) s }
     ensures fits { Holds cells.old n (stops_of job.now) (task_in cells.old n (stops_of job.now)) }
     ensures tables { (τ : Task (Option M.Value)) → Holds cells.old n (stops_of job.now) τ → Tables M.Measure.meaning cells.new n (stops_of job.now) τ (hang_in cells.new n) }
+    ensures least { (τ : Task (Option M.Value)) → Holds cells.old n (stops_of job.now) τ → (s : ℕ) → s < length (stops_of job.now) → SubtreeLeast (optional M.Measure.meaning) τ s (best_in cells.new n s) (hang_in cells.new n s) }
 {
     let m = job.len();
-    for i in 0..m {
-        let s = m - 1 - i;
-        fill_best::<M>(cells, n, job, s);
-        fill_hang::<M>(cells, n, job, s);
-    }
+    fill_rows::<M>(cells, n, job, m);
 }

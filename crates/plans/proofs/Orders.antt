@@ -5,10 +5,11 @@ use Rattle.measures.specs.Meaning.{MeasureMeaning}
 use Rattle.measures.specs.Laws.{Laws}
 use Rattle.streets.specs.Meaning.{StreetMeaning}
 use Rattle.plans.specs.Job.{JobMeaning, Tree}
-use Rattle.plans.specs.Plans.{Plan, Score, Same, Earlier, Before, by_score, by_places}
+use Rattle.plans.specs.Plans.{Plan, Score, Before, by_score, by_places}
 use Rattle.plans.specs.Laws.{OrderLaws}
 use Rattle.plans.proofs.Closure.{same_before}
 use Rattle.plans.proofs.Scores.{one, there, same_score}
+use Rattle.sets.specs.Placements.{Same, Earlier}
 
 -- the order of places
 pub places_total : (k : ℕ) (P Q : ℕ → ℕ) → Same k P Q ⊎ (Earlier k P Q ⊎ Earlier k Q P)

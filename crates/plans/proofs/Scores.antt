@@ -7,11 +7,13 @@ use Rattle.measures.specs.Laws.{Laws}
 use Rattle.streets.specs.Meaning.{StreetMeaning, Sound}
 use Rattle.plans.specs.Walks.{direct, RideOf}
 use Rattle.plans.specs.Job.{JobMeaning, Tree}
-use Rattle.plans.specs.Plans.{fits, LinkValue, StopLink, Plan, links_joined, Score, Same}
-use Rattle.plans.specs.Computed.{ride_from, link_from, stop_value, total, score_from}
+use Rattle.plans.specs.Plans.{fits, LinkValue, StopLink, Plan, links_joined, Score}
+use Rattle.plans.specs.Computed.{ride_from, link_from, stop_value, score_from}
 use Rattle.plans.specs.Laws.{RideLaws, ScoreLaws}
 use Rattle.plans.proofs.Closure.{none_some}
 use Rattle.plans.proofs.Rides.{ride_laws_lem}
+use Rattle.sets.specs.Placements.{Same}
+use Rattle.measures.specs.Scales.{total, optional}
 
 -- a value that is there only under a test
 if_some : {V : Type 0} (t : Bool) (o : Option V) (x : V) → cond t o None ≡ Some x → (t ≡ true) × (o ≡ Some x)
@@ -58,18 +60,18 @@ module _ {V : Type 0} (m : MeasureMeaning V) (laws : Laws m.nought m.joined m.be
       value i = choose i (cases_lt 0 i) (cases_lt i j.stops)
 
   -- each part of a total is there
-  total_part : (k : ℕ) (f : ℕ → Option V) (v : V) → total m k f ≡ Some v → (i : ℕ) → i < k → (x : V) × (f i ≡ Some x)
+  total_part : (k : ℕ) (f : ℕ → Option V) (v : V) → total (optional m) k f ≡ Some v → (i : ℕ) → i < k → (x : V) × (f i ≡ Some x)
   unfolding total
   total_part zero f v e i l = absurd (omega arith)
   total_part (suc k) f v e i l =
-      let p = both_parts m.joined (total m k f) (f k) v e in
+      let p = both_parts m.joined (total (optional m) k f) (f k) v e in
       ⊎_elim (total_part k f p.0 p.2 i) (λ h. let d : i ≡ k = omega arith in (p.1, ap f d ∙ p.3)) (cases_lt i k)
 
   or_nought : Option V → V
   or_nought (Some x) = x
   or_nought None = m.nought
 
-  total_joined : (k : ℕ) (f : ℕ → Option V) (v : V) → 1 ≤ k → f 0 ≡ Some m.nought → total m k f ≡ Some v → links_joined m k (λ i. or_nought (f i)) ≡ v
+  total_joined : (k : ℕ) (f : ℕ → Option V) (v : V) → 1 ≤ k → f 0 ≡ Some m.nought → total (optional m) k f ≡ Some v → links_joined m k (λ i. or_nought (f i)) ≡ v
   unfolding total or_nought
   total_joined zero f v h z e = absurd (omega arith)
   total_joined (suc zero) f v h z e =
@@ -78,10 +80,10 @@ module _ {V : Type 0} (m : MeasureMeaning V) (laws : Laws m.nought m.joined m.be
       let y : m.nought ≡ p.1 = cc (z, p.3) in
       sym (laws.zero_joined m.nought) ∙ ap₂ m.joined x y ∙ p.4
   total_joined (suc (suc k)) f v h z e =
-      let p = both_parts m.joined (total m (suc k) f) (f (suc k)) v e in
+      let p = both_parts m.joined (total (optional m) (suc k) f) (f (suc k)) v e in
       ap₂ m.joined (total_joined (suc k) f p.0 (omega arith) z p.2) (ap or_nought p.3) ∙ p.4
 
-  total_some : (k : ℕ) (f : ℕ → Option V) (g : ℕ → V) → 1 ≤ k → f 0 ≡ Some m.nought → ((i : ℕ) → 0 < i → i < k → f i ≡ Some (g i)) → total m k f ≡ Some (links_joined m k g)
+  total_some : (k : ℕ) (f : ℕ → Option V) (g : ℕ → V) → 1 ≤ k → f 0 ≡ Some m.nought → ((i : ℕ) → 0 < i → i < k → f i ≡ Some (g i)) → total (optional m) k f ≡ Some (links_joined m k g)
   unfolding total
   total_some zero f g h z each = absurd (omega arith)
   total_some (suc zero) f g h z each = ap (both m.joined (Some m.nought)) z ∙ ap {B = Option V} Some (laws.zero_joined m.nought)

@@ -2,6 +2,7 @@
 use Rattle.std.specs.Prelude.{ℕ, zero, suc, Bool, cond, ◌&&◌, Some, None, Option, nat_lt}
 use Rattle.measures.specs.Optional.{both}
 use Rattle.measures.specs.Meaning.{MeasureMeaning}
+use Rattle.measures.specs.Scales.{optional, total}
 use Rattle.streets.specs.Meaning.{StreetMeaning}
 use Rattle.plans.specs.Walks.{direct}
 use Rattle.plans.specs.Job.{JobMeaning}
@@ -31,11 +32,6 @@ link_from m s j (suc i) p q = cond (j.rides (suc i)) (ride_from m s p q) (direct
 abbrev pub stop_value : {V : Type 0} → MeasureMeaning V → StreetMeaning → JobMeaning → ℕ → ℕ → ℕ → Option V
 stop_value m s j i p q = cond (nat_lt q s.places && fits (j.kind i) (s.kind q)) (link_from m s j i p q) None
 
--- the join of f 0 to f (k - 1), none where one is missing
-unfoldable pub total : {V : Type 0} → MeasureMeaning V → ℕ → (ℕ → Option V) → Option V
-total m zero f = Some m.nought
-total m (suc k) f = both m.joined (total m k f) (f k)
-
 -- the score of P, none where P is no plan
 abbrev pub score_from : {V : Type 0} → MeasureMeaning V → StreetMeaning → JobMeaning → (ℕ → ℕ) → Option V
-score_from m s j P = total m j.stops (λ i. stop_value m s j i (P (j.parent i)) (P i))
+score_from m s j P = total (optional m) j.stops (λ i. stop_value m s j i (P (j.parent i)) (P i))

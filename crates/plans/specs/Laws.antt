@@ -4,8 +4,9 @@ use Rattle.measures.specs.Meaning.{MeasureMeaning}
 use Rattle.streets.specs.Meaning.{StreetMeaning, Sound}
 use Rattle.plans.specs.Walks.{Walk, Ride, RideOf}
 use Rattle.plans.specs.Job.{JobMeaning, Tree}
-use Rattle.plans.specs.Plans.{Plan, Score, Same, Before}
+use Rattle.plans.specs.Plans.{Plan, Score, Before}
 use Rattle.plans.specs.Computed.{ride_from, score_from}
+use Rattle.sets.specs.Placements.{Same}
 
 -- rides by a measure, over every street
 pub record RideLaws {V : Type 0} (m : MeasureMeaning V) : Type 0 where

@@ -2,6 +2,7 @@
 use Rattle.std.specs.Prelude.{◌≡◌, ℕ, zero, suc, ◌<◌, Bool, true, false, ◌||◌, Some, ◌==◌}
 use Rattle.measures.specs.Meaning.{MeasureMeaning}
 use Rattle.streets.specs.Meaning.{StreetMeaning}
+use Rattle.sets.specs.Placements.{Earlier}
 use Rattle.plans.specs.Walks.{direct, Ride}
 use Rattle.plans.specs.Job.{JobMeaning}
 
@@ -35,14 +36,6 @@ pub record Score {V : Type 0} (m : MeasureMeaning V) (s : StreetMeaning) (j : Jo
   pub value : ℕ → V
   pub each : (i : ℕ) → 0 < i → i < j.stops → StopLink m s j P i (value i)
   pub sum : links_joined m j.stops value ≡ v
-
--- P and Q give the stops below k the same places
-abbrev pub Same : ℕ → (ℕ → ℕ) → (ℕ → ℕ) → Type 0
-Same k P Q = (i : ℕ) → i < k → P i ≡ Q i
-
--- of the stops below k there is a first where P and Q differ, and P has the smaller place there
-abbrev pub Earlier : ℕ → (ℕ → ℕ) → (ℕ → ℕ) → Type 0
-Earlier k P Q = (i : ℕ) × (i < k) × Same i P Q × (P i < Q i)
 
 -- P comes before Q: by its lower score, or at equal scores by its places
 pub data Before {V : Type 0} (m : MeasureMeaning V) (s : StreetMeaning) (j : JobMeaning) (P Q : ℕ → ℕ) : Type 0 where

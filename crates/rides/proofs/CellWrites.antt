@@ -2,9 +2,9 @@
 use Rattle.std.proofs.Common.{◌≡◌, ℕ, ◌+◌, ◌*◌, ◌/◌, ◌%◌, ◌<◌, ◌≢◌, List, length, get_or, set, sym, ap, ◌∙◌, arith}
 use Rattle.std.proofs.lemmas.List.{get_or_default, get_or-set_same, get_or-set_other, length-set}
 use Rattle.std.proofs.lemmas.Nat.{div-mul-add, mod-mul-add}
-use Rattle.cells.specs.Tables.{blank, leg_in, ride_in, kind_in}
+use Rattle.tables.specs.Tables.{blank, leg_in, ride_in, kind_in}
 use Rattle.cells.specs.declared.cell.Cell.{Cell}
-use Rattle.cells.proofs.Reading.{same_part}
+use Rattle.tables.proofs.Reading.{same_part}
 use Rattle.rides.specs.Rounds.{Written, KindWritten, SameLegs, SameKinds, RidesOnly}
 
 -- two pairs with the same cell are the same

@@ -1,3 +1,4 @@
 pub mod CellWrites
 pub mod Rounding
 pub mod Starting
+pub mod Still

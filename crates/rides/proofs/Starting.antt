@@ -7,7 +7,7 @@ use Rattle.plans.specs.Walks.{direct}
 use Rattle.plans.proofs.Closure.{best_start}
 use Rattle.plans.proofs.Rides.{best_ride}
 use Rattle.std.proofs.lemmas.Bool.{cases_lt, cases_eq}
-use Rattle.cells.specs.Tables.{leg_in, ride_in, kind_in}
+use Rattle.tables.specs.Tables.{leg_in, ride_in, kind_in}
 use Rattle.cells.specs.declared.cell.Cell.{Cell}
 use Rattle.rides.specs.Cells.{Fills}
 use Rattle.rides.specs.Rounds.{Written, KindWritten, Behind, SameKinds, RidesOnly, Passed, Started, Full}

@@ -3,7 +3,7 @@ use Rattle.std.specs.Prelude.{◌≡◌, ℕ, ◌*◌, ◌<◌, ◌≤◌, List,
 use Rattle.measures.specs.Meaning.{MeasureMeaning}
 use Rattle.streets.specs.Meaning.{StreetMeaning}
 use Rattle.plans.specs.Walks.{direct, RideOf}
-use Rattle.cells.specs.Tables.{leg_in, ride_in, kind_in}
+use Rattle.tables.specs.Tables.{leg_in, ride_in, kind_in}
 use Rattle.cells.specs.declared.cell.Cell.{Cell}
 
 -- the cells hold for each pair of a street's places the value of the leg and the ride, each none where there is none,

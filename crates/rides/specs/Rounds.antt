@@ -4,7 +4,7 @@ use Rattle.measures.specs.Meaning.{MeasureMeaning}
 use Rattle.streets.specs.Meaning.{StreetMeaning}
 use Rattle.plans.specs.Walks.{direct}
 use Rattle.plans.specs.Between.{Via, Reaches, Best}
-use Rattle.cells.specs.Tables.{leg_in, ride_in, kind_in}
+use Rattle.tables.specs.Tables.{leg_in, ride_in, kind_in}
 use Rattle.cells.specs.declared.cell.Cell.{Cell}
 
 -- what filling leaves as it was: the cells behind the table

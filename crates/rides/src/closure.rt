@@ -2,14 +2,14 @@ ghost use Rattle.std.specs.Prelude.{◌≡◌, ◌+◌, ◌*◌, ◌<◌, ◌≤
 ghost use Rattle.measures.specs.Optional.{both};
 ghost use Rattle.streets.specs.Meaning.{StreetMeaning};
 ghost use Rattle.plans.specs.Computed.{lesser};
-ghost use Rattle.cells.specs.Tables.{ride_in};
+ghost use Rattle.tables.specs.Tables.{ride_in};
 ghost use Rattle.rides.specs.Rounds.{Written, RidesOnly, Mid, Full};
 
 use crate::pairs::set_ride;
 use cells::cell::Cell;
-use cells::tables::ride_at;
 use measures::Measure;
 use measures::optional::join_options;
+use tables::access::ride_at;
 
 // The lesser of two values, where each may be missing.
 pub fn lesser_option<M: Measure>(a: Option<M::Value>, b: Option<M::Value>) -> Option<M::Value>

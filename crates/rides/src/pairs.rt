@@ -1,9 +1,9 @@
 ghost use Rattle.std.specs.Prelude.{◌*◌, ◌<◌, ◌≤◌, length};
-ghost use Rattle.cells.specs.Tables.{leg_in, ride_in};
+ghost use Rattle.tables.specs.Tables.{leg_in, ride_in};
 ghost use Rattle.rides.specs.Rounds.{Written, KindWritten, Behind, SameKinds, RidesOnly};
 
 use cells::cell::Cell;
-use cells::tables::pair_place;
+use tables::access::pair_place;
 
 // Writes the leg's value and the ride from a to b.
 pub(crate) fn set_pair<M, V: Copy>(

@@ -1,6 +1,6 @@
 ghost use Rattle.std.specs.Prelude.{◌≡◌, ◌+◌, ◌*◌, ◌<◌, ◌≤◌, length, nat_lt};
 ghost use Rattle.plans.specs.Walks.{direct};
-ghost use Rattle.cells.specs.Tables.{leg_in, ride_in};
+ghost use Rattle.tables.specs.Tables.{leg_in, ride_in};
 ghost use Rattle.rides.specs.Cells.{Fills};
 ghost use Rattle.rides.specs.Rounds.{Written, KindWritten, Behind, SameKinds, Started};
 

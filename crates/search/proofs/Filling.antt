@@ -8,8 +8,8 @@ use Rattle.sets.specs.Sets.{has_bit}
 use Rattle.sets.specs.declared.PlaceSet.{PlaceSet}
 use Rattle.jobs.specs.declared.job.Job.{Job}
 use Rattle.jobs.specs.Jobs.{stops_of}
-use Rattle.trees.specs.Scales.{optional}
-use Rattle.trees.specs.Tasks.{Task, put, Agree}
+use Rattle.measures.specs.Scales.{optional}
+use Rattle.trees.specs.Tasks.{Task, put}
 use Rattle.trees.specs.Minima.{bound}
 use Rattle.trees.specs.Subspaces.{Picked, Found, First}
 use Rattle.trees.proofs.Lift.{lifted}
@@ -17,17 +17,12 @@ use Rattle.trees.proofs.Firsts.{found_start, found_more, swap}
 use Rattle.cells.specs.declared.cell.Cell.{Cell}
 use Rattle.cells.specs.Cells.{places_of, space_of}
 use Rattle.minima.specs.Tables.{Tables}
-use Rattle.search.specs.declared.choice.Choice.{Choice}
-use Rattle.search.specs.Places.{Picking, Finding}
+use Rattle.bounds.specs.declared.choice.Choice.{Choice}
+use Rattle.bounds.specs.Prefixes.{Picking}
+use Rattle.search.specs.Places.{Finding}
+use Rattle.sets.specs.Placements.{Same}
 
--- the choice of place i, under the names that the code has for it
-pub moved : {V : Type 0} (meaning : MeasureMeaning V) (out : ℕ) (τ : Task (Option V)) (H : ℕ → ℕ → Option V) (places : List ℕ) (i q : ℕ) (r : Choice V) → r.place ≡ q → r.value ≡ bound (optional meaning) τ H (i + 1) (put (places_of places) i q) →
-    Picked (optional meaning) (q + 1) (has_bit out) (λ x. bound (optional meaning) τ H (i + 1) (put (places_of places) i x)) q (bound (optional meaning) τ H (i + 1) (put (places_of places) i q)) → Picking meaning τ H places i out (q + 1) r
-moved {V} meaning out τ H places i q r e f p =
-    subst (λ (x : ℕ). Picked (optional meaning) (q + 1) (has_bit out) (λ y. bound (optional meaning) τ H (i + 1) (put (places_of places) i y)) x r.value) (sym e)
-    (subst (λ (v : Option V). Picked (optional meaning) (q + 1) (has_bit out) (λ y. bound (optional meaning) τ H (i + 1) (put (places_of places) i y)) q v) (sym f) p)
-
-pub set_agree : (xs : List ℕ) (i k q : ℕ) → k ≤ i → Agree k (places_of xs) (places_of (set xs i q))
+pub set_agree : (xs : List ℕ) (i k q : ℕ) → k ≤ i → Same k (places_of xs) (places_of (set xs i q))
 set_agree xs i k q le s l = sym (get_or-set_other xs i s q 0 (λ e. omega arith))
 
 pub set_small : (xs : List ℕ) (i q n : ℕ) → i < length xs → q < n → ((t : ℕ) → t < i → places_of xs t < n) → (t : ℕ) → t < i + 1 → places_of (set xs i q) t < n
@@ -58,7 +53,7 @@ module _ {M V : Type 0} (meaning : MeasureMeaning V) (laws : Laws meaning.nought
       (subst (λ (k : ℕ). Picked (optional meaning) k (has_bit excluded) (λ q. bound (optional meaning) τ H (depth + 1) (put (places_of places) depth q)) r.place r.value) (sym tables.holds.count) pick)
       (set_agree places depth depth r.place (omega arith)) (get_or-set_same places depth r.place 0 within)
 
-  pub first_of : (from places : List ℕ) (depth : ℕ) (excluded : PlaceSet) (r : Choice V) → depth < length (stops_of j) → Agree depth (places_of from) (places_of places) → Picking meaning τ H from depth excluded.bits n r →
+  pub first_of : (from places : List ℕ) (depth : ℕ) (excluded : PlaceSet) (r : Choice V) → depth < length (stops_of j) → Same depth (places_of from) (places_of places) → Picking meaning τ H from depth excluded.bits n r →
       ((r.value ≡ None → ⊥) → Finding meaning τ H depth excluded.bits r.value (length (stops_of j)) places) → First (optional meaning) τ H (space_of (record { score = r.value; places = places; depth = depth; excluded = excluded }))
   first_of from places depth excluded r deep same pick found = record {
     deep = λ _. subst (λ (k : ℕ). depth < k) (sym tables.holds.size) deep;

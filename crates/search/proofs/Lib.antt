@@ -1,2 +1,1 @@
-pub mod Bounding
 pub mod Filling

@@ -1,31 +1,24 @@
--- The terms of a bound as the cells have them, and the choice of a place.
-use Rattle.std.specs.Prelude.{ℕ, ◌+◌, cond, List, Some, Option, ◌==◌, nat_lt}
-use Rattle.measures.specs.Optional.{both}
+-- Places that are found stop by stop, and the first plan of a subspace.
+use Rattle.std.specs.Prelude.{◌≡◌, ℕ, ◌<◌, List, length, None, Option}
 use Rattle.measures.specs.Meaning.{MeasureMeaning}
 use Rattle.sets.specs.Sets.{has_bit}
+use Rattle.sets.specs.Placements.{Same}
+use Rattle.sets.specs.declared.PlaceSet.{PlaceSet}
 use Rattle.jobs.specs.declared.stops.Stop.{Stop}
-use Rattle.trees.specs.Scales.{optional}
-use Rattle.trees.specs.Tasks.{Task, put}
-use Rattle.trees.specs.Minima.{bound}
-use Rattle.trees.specs.Subspaces.{Picked, Found}
+use Rattle.measures.specs.Scales.{optional}
+use Rattle.trees.specs.Tasks.{Task}
+use Rattle.trees.specs.Subspaces.{Found, First}
 use Rattle.cells.specs.declared.cell.Cell.{Cell}
-use Rattle.cells.specs.Cells.{places_of}
-use Rattle.cells.specs.Tables.{own_in, hang_in}
-use Rattle.minima.specs.Tables.{parent_in, link_in}
-use Rattle.search.specs.declared.choice.Choice.{Choice}
-
--- what stop s adds at place q where its parent stands at place p
-abbrev pub cost_in : {M V : Type 0} → MeasureMeaning V → List (Cell M V) → ℕ → List Stop → ℕ → ℕ → ℕ → Option V
-cost_in meaning cells n stops s p q = cond (s == 0) (own_in cells n s q) (both meaning.joined (own_in cells n s q) (link_in cells n stops s p q))
-
--- what stop s adds to the bound of the prefix of P with i stops
-abbrev pub term_in : {M V : Type 0} → MeasureMeaning V → List (Cell M V) → ℕ → List Stop → ℕ → (ℕ → ℕ) → ℕ → Option V
-term_in meaning cells n stops i P s = cond (nat_lt s i) (cost_in meaning cells n stops s (P (parent_in stops s)) (P s)) (cond (nat_lt (parent_in stops s) i) (hang_in cells n s (P (parent_in stops s))) (Some meaning.nought))
-
--- of the places below k for stop i that are not excluded, the first whose bound is least
-abbrev pub Picking : {V : Type 0} → MeasureMeaning V → Task (Option V) → (ℕ → ℕ → Option V) → List ℕ → ℕ → ℕ → ℕ → Choice V → Type 0
-Picking meaning τ H places i excluded k r = Picked (optional meaning) k (has_bit excluded) (λ q. bound (optional meaning) τ H (i + 1) (put (places_of places) i q)) r.place r.value
+use Rattle.cells.specs.declared.cell.Entry.{Entry}
+use Rattle.cells.specs.Cells.{places_of, space_of}
+use Rattle.minima.specs.Tables.{Tables}
 
 -- from the depth on, up to stop k, each place is the first whose bound is least
 abbrev pub Finding : {V : Type 0} → MeasureMeaning V → Task (Option V) → (ℕ → ℕ → Option V) → ℕ → ℕ → Option V → ℕ → List ℕ → Type 0
 Finding meaning τ H depth excluded v k places = Found (optional meaning) τ H k (places_of places) depth (has_bit excluded) v
+
+-- r is the entry of the subspace of these places below the depth and the excluded ones at it, with the subspace's first plan
+pub record FirstIn {M V : Type 0} (meaning : MeasureMeaning V) (cells : List (Cell M V)) (n : ℕ) (stops : List Stop) (from : List ℕ) (depth : ℕ) (excluded : PlaceSet) (r : Entry V) : Type 0 where
+  pub kept : (r.depth ≡ depth) × (r.excluded ≡ excluded) × Same depth (places_of from) (places_of r.places)
+  pub small : (0 < n → (t : ℕ) → t < length stops → places_of r.places t < n) × (n ≡ 0 → r.score ≡ None)
+  pub first : (τ : Task (Option V)) (H : ℕ → ℕ → Option V) → Tables meaning cells n stops τ H → First (optional meaning) τ H (space_of r)

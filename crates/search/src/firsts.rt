@@ -1,13 +1,12 @@
-ghost use Rattle.std.specs.Prelude.{◌≡◌, ℕ, ◌+◌, ◌*◌, ◌<◌, ◌≤◌, length, None, Option, ◌≢◌};
+ghost use Rattle.std.specs.Prelude.{◌≡◌, ℕ, ◌+◌, ◌*◌, ◌<◌, length, None, Option, ◌≢◌};
 ghost use Rattle.jobs.specs.Jobs.{stops_of};
-ghost use Rattle.trees.specs.Scales.{optional};
-ghost use Rattle.trees.specs.Tasks.{Task, Agree};
-ghost use Rattle.trees.specs.Subspaces.{First};
-ghost use Rattle.cells.specs.Cells.{places_of, space_of};
+ghost use Rattle.trees.specs.Tasks.{Task};
+ghost use Rattle.cells.specs.Cells.{places_of};
 ghost use Rattle.minima.specs.Tables.{Ready, Tables};
-ghost use Rattle.search.specs.Places.{Finding};
+ghost use Rattle.search.specs.Places.{Finding, FirstIn};
+ghost use Rattle.sets.specs.Placements.{Same};
 
-use crate::bounds::pick;
+use bounds::prefixes::pick;
 use cells::cell::{Cell, Entry};
 use jobs::job::Job;
 use measures::Measure;
@@ -22,7 +21,7 @@ fn fill_rest<M: Measure>(
     depth: usize,
 )
     requires { Ready cells.now n (stops_of job.now) × (depth < length (stops_of job.now)) × ((t : ℕ) → t < depth + 1 → places_of places.old t < n) }
-    ensures same { Agree (depth + 1) (places_of places.old) (places_of places.new) }
+    ensures same { Same (depth + 1) (places_of places.old) (places_of places.new) }
     ensures small { (t : ℕ) → t < length (stops_of job.now) → places_of places.new t < n }
     ensures found { (τ : Task (Option M.Value)) (H : ℕ → ℕ → Option M.Value) (excluded : ℕ) (v : Option M.Value) → Tables M.Measure.meaning cells.now n (stops_of job.now) τ H → (v ≢ None) →
         Finding M.Measure.meaning τ H depth excluded v (depth + 1) places.old → Finding M.Measure.meaning τ H depth excluded v (length (stops_of job.now)) places.new }
@@ -31,6 +30,30 @@ fn fill_rest<M: Measure>(
     for i in depth + 1..m {
         let next = pick::<M>(cells, n, job, places, i, PlaceSet::empty());
         places[i] = next.place;
+    }
+}
+
+// The same as `first_plan`, where there are places.
+fn first_at_places<M: Measure>(
+    cells: &[Cell<M, M::Value>],
+    n: usize,
+    job: &Job,
+    from: &[u8; 12],
+    depth: usize,
+    excluded: PlaceSet,
+) -> Entry<M::Value>
+    requires { Ready cells.now n (stops_of job.now) × (depth < length (stops_of job.now)) × ((t : ℕ) → t < depth → places_of from.now t < n) × (0 < n) }
+    ensures { FirstIn M.Measure.meaning cells.now n (stops_of job.now) from.now depth excluded result }
+{
+    let mut places = *from;
+    let top = pick::<M>(cells, n, job, from, depth, excluded);
+    places[depth] = top.place;
+    fill_rest::<M>(cells, n, job, &mut places, depth);
+    Entry {
+        score: top.value,
+        places,
+        depth,
+        excluded,
     }
 }
 
@@ -45,27 +68,15 @@ pub fn first_plan<M: Measure>(
     excluded: PlaceSet,
 ) -> Entry<M::Value>
     requires { Ready cells.now n (stops_of job.now) × (depth < length (stops_of job.now)) × ((t : ℕ) → t < depth → places_of from.now t < n) }
-    ensures kept { (result.depth ≡ depth) × (result.excluded ≡ excluded) × Agree depth (places_of from.now) (places_of result.places) }
-    ensures small { (0 < n → (t : ℕ) → t < length (stops_of job.now) → places_of result.places t < n) × (n ≡ 0 → result.score ≡ None) }
-    ensures first { (τ : Task (Option M.Value)) (H : ℕ → ℕ → Option M.Value) → Tables M.Measure.meaning cells.now n (stops_of job.now) τ H →
-        First (optional M.Measure.meaning) τ H (space_of result) }
+    ensures { FirstIn M.Measure.meaning cells.now n (stops_of job.now) from.now depth excluded result }
 {
-    let mut places = *from;
     if n == 0 {
         return Entry {
             score: None,
-            places,
+            places: *from,
             depth,
             excluded,
         };
     }
-    let top = pick::<M>(cells, n, job, from, depth, excluded);
-    places[depth] = top.place;
-    fill_rest::<M>(cells, n, job, &mut places, depth);
-    Entry {
-        score: top.value,
-        places,
-        depth,
-        excluded,
-    }
+    first_at_places::<M>(cells, n, job, from, depth, excluded)
 }

@@ -1,5 +1,3 @@
 #![tactic(auto)]
 
-pub mod bounds;
-pub mod choice;
 pub mod firsts;

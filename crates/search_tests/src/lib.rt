@@ -1,23 +1,21 @@
 // The first plan and the whole enumeration over random small tables, compared with all placements laid out.
 #![tactic(auto)]
 
-ghost use Rattle.std.specs.Prelude.{◌≡◌, ℕ, ◌+◌, ◌<◌, ◌≤◌, length};
+ghost use Rattle.std.specs.Prelude.{◌≡◌, ◌+◌, ◌<◌, length};
 ghost use Rattle.jobs.specs.Jobs.{stops_of};
-ghost use Rattle.cells.specs.Cells.{places_of};
-ghost use Rattle.cells.specs.Tables.{entry_in};
 
 use cells::cell::{Cell, Entry};
 use cells::order::entry_at_or_before;
-use cells::tables::{entry_at, own_at};
 use jobs::job::Job;
+use leaders::advancing::advance;
+use leaders::rows::find_next;
 use measures::Measure;
 use measures::optional::join_options;
 use minima::links::{link_at, parent_at};
 use minima::subtrees::fill_minima;
 use sets::PlaceSet;
+use tables::access::{entry_at, own_at};
 use waiting::opening::let_all_wait;
-use waiting::picking::find_next;
-use waiting::queue::split_off;
 
 // Three places, three stops, 28 plans wanted: 9 pairs, 9 stops at places, 84 waiting entries.
 const CELLS: usize = 102;
@@ -127,27 +125,27 @@ fn rank<M: Measure>(cells: &[Cell<M, M::Value>], job: &Job, plan: &Entry<M::Valu
     }
 }
 
-// Gives the plan of entry w where row `rows` is free for its parts; tells whether it could be given.
+// Gives the plan of head w where row `rows` is free for its parts; tells whether it could be given.
 fn give<M: Measure>(cells: &mut [Cell<M, M::Value>], job: &Job, rows: usize, w: usize) -> bool
     requires { (length cells.old ≡ 102) × (length (stops_of job.now) ≡ 3) }
     ensures { length cells.new ≡ length cells.old }
 {
-    if rows >= 28 || w >= 28 + rows * 2 {
+    if rows >= 28 || w > rows {
         return false;
     }
     let plan = entry_at(cells, 18 + w);
     if plan.depth >= 3 || plan.places[0] >= 3 || plan.places[1] >= 3 || plan.places[2] >= 3 {
         return false;
     }
-    split_off::<M>(cells, 3, job, 18, 28, rows, w);
+    advance::<M>(cells, 3, job, 18, 28, rows, w);
     true
 }
 
-// Whether entry w has the plan with this number.
+// Whether head w has the plan with this number.
 fn right<M: Measure>(cells: &[Cell<M, M::Value>], job: &Job, number: usize, w: usize) -> bool
     requires { length cells.now ≡ 102 }
 {
-    if w >= 84 {
+    if w >= 28 {
         return false;
     }
     let plan = entry_at(cells, 18 + w);
@@ -166,7 +164,7 @@ fn enumerated<M: Measure>(cells: &mut [Cell<M, M::Value>], job: &Job) -> bool
                 if !right::<M>(cells, job, given, w) {
                     return false;
                 }
-                if !give::<M>(cells, job, given + 1, w) {
+                if !give::<M>(cells, job, given, w) {
                     return false;
                 }
             }

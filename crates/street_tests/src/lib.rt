@@ -6,10 +6,10 @@ mod tests {
     use choices::choices;
     use jobs::job::{Draft, Job};
     use jobs::stops::{Link, Stop, Tie};
+    use quarters::quarter::Quarter;
     use std::test::Fail;
     use streets::legs::{Leg, LegRecord};
     use streets::list::ListStreet;
-    use streets::quarter::Quarter;
     use streets::street::Street;
 
     fn record(from: u8, to: u8, seconds: u16) -> LegRecord {

@@ -2,5 +2,4 @@
 
 pub mod legs;
 pub mod list;
-pub mod quarter;
 pub mod street;

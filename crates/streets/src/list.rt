@@ -1,5 +1,5 @@
-ghost use Rattle.std.specs.Prelude.{◌≡◌, ℕ, ◌<◌, ◌≤◌, min, length, take};
-ghost use Rattle.streets.specs.Lists.{counted, last_leg, list_meaning};
+ghost use Rattle.std.specs.Prelude.{◌≡◌, ◌<◌, min, take};
+ghost use Rattle.streets.specs.Lists.{last_leg, list_meaning};
 ghost use Rattle.streets.specs.Sounds.{list_sound};
 
 use crate::legs::{Leg, LegRecord};

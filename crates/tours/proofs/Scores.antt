@@ -7,20 +7,17 @@ use Rattle.measures.specs.Laws.{Laws}
 use Rattle.streets.specs.Meaning.{StreetMeaning, Sound}
 use Rattle.plans.specs.Job.{JobMeaning, Tree}
 use Rattle.plans.specs.Plans.{fits, Plan, Score, Before, by_score, by_places}
-use Rattle.plans.specs.Computed.{link_from, stop_value, total, score_from}
+use Rattle.plans.specs.Computed.{link_from, stop_value, score_from}
 use Rattle.plans.proofs.Rides.{ride_laws_lem}
 use Rattle.plans.proofs.Scores.{score_laws_lem}
-use Rattle.trees.specs.Scales.{optional, at_most}
-use Rattle.trees.specs.Tasks.{Task, cost, score, total as taskTotal, Before as TaskBefore}
+use Rattle.measures.specs.Scales.{optional, at_most}
+use Rattle.trees.specs.Tasks.{Task, cost, score, Before as TaskBefore}
+use Rattle.trees.proofs.Lift.{lifted}
+use Rattle.trees.proofs.Bounds.{total_same}
 use Rattle.tours.specs.Tasks.{task_of}
 use Rattle.tours.specs.Laws.{HoldLegs, HoldRides}
 
 module _ {V : Type 0} (m : MeasureMeaning V) (laws : Laws m.nought m.joined m.before) where
-  total_same : (k : ℕ) (f g : ℕ → Option V) → ((i : ℕ) → f i ≡ g i) → taskTotal (optional m) k f ≡ total m k g
-  unfolding taskTotal total
-  total_same zero f g h = refl
-  total_same (suc k) f g h = ap₂ (both m.joined) (total_same k f g h) (h k)
-
   -- joined to its own value a link counts where the place fits
   own_link : (t : Bool) (o : Option V) → both m.joined (cond t (Some m.nought) None) o ≡ cond t o None
   own_link true (Some x) = ap {B = Option V} Some (laws.zero_joined x)
@@ -43,7 +40,7 @@ module _ {V : Type 0} (m : MeasureMeaning V) (laws : Laws m.nought m.joined m.be
 
     pub scored : (P : ℕ → ℕ) → score (optional m) τ P ≡ score_from m s j P
     unfolding score
-    scored P = total_same j.stops _ _ (λ i. stop_cost i (P (j.parent i)) (P i))
+    scored P = total_same (optional m) (lifted m laws) j.stops _ _ (λ i _. stop_cost i (P (j.parent i)) (P i))
 
     module _ (sound : Sound s) (tree : Tree j) where
       pub plan_right : (P : ℕ → ℕ) (v : V) → score (optional m) τ P ≡ Some v → Plan m s j P × Score m s j P v

@@ -6,14 +6,15 @@ use Rattle.streets.specs.Meaning.{StreetMeaning, Sound}
 use Rattle.plans.specs.Job.{JobMeaning, Tree}
 use Rattle.plans.specs.Plans.{Plan, Score}
 use Rattle.plans.proofs.Closure.{none_some}
-use Rattle.trees.specs.Scales.{optional, at_most}
-use Rattle.trees.specs.Tasks.{Task, Agree, score, Before as TaskBefore}
+use Rattle.measures.specs.Scales.{optional, at_most}
+use Rattle.trees.specs.Tasks.{Task, score, Before as TaskBefore}
 use Rattle.trees.specs.Rounds.{Unlike, FirstLeft, NoneLeft, InTurn, nothing as no-task-plan, next as next-task-plan}
 use Rattle.tours.specs.Tasks.{task_of}
 use Rattle.tours.specs.Turns.{FirstPlanLeft, NoPlanLeft, AllPlansBefore, PlansInOrder, PlansInTurn, nothing, next}
 use Rattle.tours.specs.Laws.{TourLaws}
 use Rattle.tours.proofs.Stops.{stops_tree, stops_root}
 use Rattle.tours.proofs.Scores.{linked, scored, plan_right, plan_only, plan_some, before_right, before_only}
+use Rattle.sets.specs.Placements.{Same}
 
 module _ {V : Type 0} (m : MeasureMeaning V) (s : StreetMeaning) (j : JobMeaning) where
   pub all_before : {given : List (ℕ → ℕ)} → PlansInTurn m s j given → (Q : ℕ → ℕ) → Plan m s j Q → Unlike j.stops given Q → AllPlansBefore m s j given Q
@@ -55,7 +56,7 @@ module _ {V : Type 0} (m : MeasureMeaning V) (laws : Laws m.nought m.joined m.be
     own = plan_only m laws s j sound tree P v f.plan f.scored
 
     -- places without a score come after every plan
-    compared : (Q : ℕ → ℕ) → Unlike j.stops given Q → (o : Option V) → score (optional m) τ Q ≡ o → Agree j.stops P Q ⊎ TaskBefore (optional m) τ P Q
+    compared : (Q : ℕ → ℕ) → Unlike j.stops given Q → (o : Option V) → score (optional m) τ Q ≡ o → Same j.stops P Q ⊎ TaskBefore (optional m) τ P Q
     compared Q new (Some w) e =
         let plan = (plan_right m laws s j sound tree Q w e).0 in
         ⊎_elim inl (λ b. inr (before_only m laws s j sound tree P Q f.plan plan b)) (f.first Q plan new)

@@ -5,22 +5,13 @@ use Rattle.jobs.specs.declared.stops.Stop.{Stop}
 use Rattle.jobs.specs.declared.stops.Tie.{Tie}
 use Rattle.jobs.specs.declared.stops.Link.{Link}
 use Rattle.jobs.specs.declared.stops.Link.TheVariants.{Direct, Ride}
+use Rattle.jobs.specs.Trees.{tie_of, parent_of}
 use Rattle.plans.specs.Job.{JobMeaning}
 
 -- the kind that a stop wants, any past the last stop
 abbrev pub kind_of : Option Stop → ℕ
 kind_of (Some stop) = stop.kind
 kind_of None = 0
-
--- how a stop hangs on its parent
-abbrev pub tie_of : Option Stop → Option Tie
-tie_of (Some stop) = stop.tie
-tie_of None = None
-
--- the parent by a tie; 0 for the root, which has none
-abbrev pub parent_of : Option Tie → ℕ
-parent_of (Some tie) = tie.parent
-parent_of None = 0
 
 -- whether a link is a ride
 abbrev pub is_ride : Link → Bool

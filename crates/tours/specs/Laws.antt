@@ -8,7 +8,7 @@ use Rattle.plans.specs.Walks.{direct, RideOf}
 use Rattle.plans.specs.Job.{JobMeaning, Tree}
 use Rattle.plans.specs.Plans.{Plan, Score, Before}
 use Rattle.plans.specs.Computed.{score_from}
-use Rattle.trees.specs.Scales.{optional}
+use Rattle.measures.specs.Scales.{optional}
 use Rattle.trees.specs.Tasks.{Rooted, Placed, score, Before as TaskBefore}
 use Rattle.trees.specs.Rounds.{Unlike, FirstLeft, NoneLeft, InTurn}
 use Rattle.tours.specs.Jobs.{job_meaning}

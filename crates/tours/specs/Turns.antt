@@ -3,8 +3,9 @@ use Rattle.std.specs.Prelude.{ℕ, ◌⊎◌, List, [], ◌∷◌}
 use Rattle.measures.specs.Meaning.{MeasureMeaning}
 use Rattle.streets.specs.Meaning.{StreetMeaning}
 use Rattle.plans.specs.Job.{JobMeaning}
-use Rattle.plans.specs.Plans.{Plan, Score, Same, Before}
+use Rattle.plans.specs.Plans.{Plan, Score, Before}
 use Rattle.trees.specs.Rounds.{Unlike}
+use Rattle.sets.specs.Placements.{Same}
 
 -- P with score v is the first plan in order that is not given
 pub record FirstPlanLeft {V : Type 0} (m : MeasureMeaning V) (s : StreetMeaning) (j : JobMeaning) (given : List (ℕ → ℕ)) (P : ℕ → ℕ) (v : V) : Type 0 where

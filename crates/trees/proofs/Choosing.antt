@@ -2,20 +2,21 @@
 use Rattle.std.proofs.Common.{◌≡◌, ℕ, zero, suc, ◌+◌, ◌<◌, ◌≤◌, true, false, ◌⊎◌, sym, refl, ap, ◌∙◌, subst, ap₂, inl, inr, ⊎_elim, add-one, arith}
 use Rattle.std.proofs.lemmas.Bool.{cases_lt, cases_order, cases_Bool, false≢true, cond-true, cond-false, lt-ltb, le-ltb, eq-eqb, ne_eqb}
 use Rattle.std.proofs.lemmas.Bool.Decides.{nat_tests}
-use Rattle.trees.specs.Scales.{Scale, Sound}
-use Rattle.trees.specs.Tasks.{Task, Rooted, Agree, Earlier, Before, score}
+use Rattle.measures.specs.Scales.{Scale, Sound}
+use Rattle.trees.specs.Tasks.{Task, Rooted, Before, score}
 use Rattle.trees.specs.Minima.{Minimal}
 use Rattle.trees.specs.Subspaces.{Subspace, First, not_later, sooner}
 use Rattle.trees.specs.Rounds.{Chosen}
 use Rattle.trees.proofs.Firsts.{true_score}
+use Rattle.sets.specs.Placements.{Same, Earlier}
 
-pub not_later_lem : (d i : ℕ) (P Q : ℕ → ℕ) → Agree i P Q → not_later d i P Q ≡ true → Agree (i + d) P Q ⊎ Earlier (i + d) P Q
+pub not_later_lem : (d i : ℕ) (P Q : ℕ → ℕ) → Same i P Q → not_later d i P Q ≡ true → Same (i + d) P Q ⊎ Earlier (i + d) P Q
 unfolding not_later
 not_later_lem zero i P Q same h = inl (λ s l. same s (omega arith))
 not_later_lem (suc d) i P Q same h = ⊎_elim
     (λ e. let next = not_later_lem d (i + 1) P Q (λ s l. ⊎_elim (same s) (λ g. let x : s ≡ i = omega arith in ap P x ∙ e ∙ ap Q (sym x)) (cases_lt s i))
     (sym (cond-false _ true _ (le-ltb (P i) (Q i) (omega arith)) ∙ cond-true _ (not_later d (i + 1) P Q) false (eq-eqb (P i) (Q i) e)) ∙ h) in
-    let a : i + 1 + d ≡ i + suc d = omega arith in subst (λ (k : ℕ). Agree k P Q ⊎ Earlier k P Q) a next)
+    let a : i + 1 + d ≡ i + suc d = omega arith in subst (λ (k : ℕ). Same k P Q ⊎ Earlier k P Q) a next)
     (λ o. ⊎_elim
     (λ lt. inr (i, omega arith, same, lt))
     (λ gt. absurd (false≢true (sym (cond-false _ true _ (le-ltb (P i) (Q i) (omega arith)) ∙ cond-false _ (not_later d (i + 1) P Q) false (ne_eqb (P i) (Q i) (λ e. omega arith))) ∙ h)))
@@ -40,7 +41,7 @@ unfolding not_later
 later_none i P Q = refl
 
 -- what holds for d stops holds for fewer
-fewer : (d m : ℕ) (P Q : ℕ → ℕ) → m ≤ d → Agree d P Q ⊎ Earlier d P Q → Agree m P Q ⊎ Earlier m P Q
+fewer : (d m : ℕ) (P Q : ℕ → ℕ) → m ≤ d → Same d P Q ⊎ Earlier d P Q → Same m P Q ⊎ Earlier m P Q
 fewer d m P Q le x = ⊎_elim
     (λ same. inl (λ s l. same s (omega arith)))
     (λ e. ⊎_elim (λ lt. inr (e.0, lt, e.2, e.3)) (λ ge. inl (λ s l. e.2 s (omega arith))) (cases_lt e.0 m))
@@ -62,11 +63,11 @@ module _ {W : Type 0} (σ : Scale W) (sound : Sound σ) (τ : Task W) (H : ℕ �
     own : score σ τ (E w).places ≡ (E w).worth
     own = true_score σ sound τ H rooted minimal (E w) (firsts w l) some
 
-    against : (v : ℕ) → v < len → ((E v).worth ≡ σ.none → ⊥) → Agree τ.m (E w).places (E v).places ⊎ Before σ τ (E w).places (E v).places
+    against : (v : ℕ) → v < len → ((E v).worth ≡ σ.none → ⊥) → Same τ.m (E w).places (E v).places ⊎ Before σ τ (E w).places (E v).places
     against v k some' = ⊎_elim
         (λ a. ⊎_elim
         (λ b. ⊎_elim inl (λ e. inr (inr (own ∙ sound.laws.antisym _ _ a b ∙ sym theirs, e)))
-        (fewer d τ.m (E w).places (E v).places le (subst (λ (m : ℕ). Agree m (E w).places (E v).places ⊎ Earlier m (E w).places (E v).places) (let z : 0 + d ≡ d = omega arith in z)
+        (fewer d τ.m (E w).places (E v).places le (subst (λ (m : ℕ). Same m (E w).places (E v).places ⊎ Earlier m (E w).places (E v).places) (let z : 0 + d ≡ d = omega arith in z)
         (not_later_lem d 0 (E w).places (E v).places (λ s x. absurd (omega arith)) (sym (cond-true _ _ false a ∙ cond-true _ _ true b) ∙ least v k)))))
         (λ b. inr (inl (ap₂ σ.leq theirs own ∙ b)))
         (cases_Bool (σ.leq (E v).worth (E w).worth)))

@@ -1,14 +1,15 @@
 -- The first plan of a set comes before every other plan of it.
 use Rattle.std.proofs.Common.{◌≡◌, ℕ, zero, suc, ◌+◌, ◌-◌, ◌<◌, ◌≤◌, Bool, true, false, eqb, ◌⊎◌, sym, refl, ap, ◌∙◌, subst, ap₂, inl, inr, ⊎_elim, arith}
 use Rattle.std.proofs.lemmas.Bool.{both_ways, cases_lt, cases_eq, cases_Bool, cases_order, cond-true, cond-false, eq-eqb, ne_eqb}
-use Rattle.trees.specs.Scales.{Scale, Sound}
-use Rattle.trees.specs.Tasks.{Task, put, score, Rooted, Placed, Agree, Before, LeastFrom}
+use Rattle.measures.specs.Scales.{Scale, Sound}
+use Rattle.trees.specs.Tasks.{Task, put, score, Rooted, Placed, Before, LeastFrom}
 use Rattle.trees.specs.Minima.{IsLeast, MinimalFrom, Minimal, bound}
 use Rattle.trees.specs.Subspaces.{Subspace, In, Picked, Found, First, Split}
 use Rattle.trees.proofs.Bounds.{one_step, local, at_end}
+use Rattle.sets.specs.Placements.{Same}
 
 -- two plans agree on the stops below k, or differ first at one of them
-pub differ : (k : ℕ) (P Q : ℕ → ℕ) → Agree k P Q ⊎ ((i : ℕ) × (i < k) × Agree i P Q × (P i ≡ Q i → ⊥))
+pub differ : (k : ℕ) (P Q : ℕ → ℕ) → Same k P Q ⊎ ((i : ℕ) × (i < k) × Same i P Q × (P i ≡ Q i → ⊥))
 differ zero P Q = inl (λ s l. absurd (omega arith))
 differ (suc k) P Q = ⊎_elim
     (λ same. ⊎_elim
@@ -25,7 +26,7 @@ put_else : (P : ℕ → ℕ) (i q s : ℕ) → (s ≡ i → ⊥) → put P i q s
 put_else P i q s d = cond-false (eqb s i) q (P s) (ne_eqb s i d)
 
 -- where Q agrees with P below i, it is P with Q's place at i
-pub put_agree : (P Q : ℕ → ℕ) (i q : ℕ) → Agree i P Q → q ≡ Q i → Agree (i + 1) (put P i q) Q
+pub put_agree : (P Q : ℕ → ℕ) (i q : ℕ) → Same i P Q → q ≡ Q i → Same (i + 1) (put P i q) Q
 put_agree P Q i q same e s l = ⊎_elim
     (λ d. ap (put P i q) d ∙ put_here P i q ∙ e ∙ ap Q (sym d))
     (λ d. put_else P i q s d ∙ same s (⊎_elim (λ h. h) (λ h. absurd (d (omega arith))) (cases_lt s i)))
@@ -41,7 +42,7 @@ module _ {W : Type 0} (σ : Scale W) (sound : Sound σ) (τ : Task W) (H : ℕ �
 
   pub up : (i : ℕ) (P : ℕ → ℕ) → k ≤ i → 0 < i → i < τ.m → ((s : ℕ) → s < i + 1 → P s < τ.n) → σ.leq (bound σ τ H i P) (bound σ τ H (i + 1) P) ≡ true
   up i P f z l placed = ap (σ.leq (bound σ τ H i P)) (local σ sound τ H rooted (i + 1) P (put P i (P i)) (omega arith) (λ s h. sym (put_agree P P i (P i) (λ _ _. refl) refl s h)))
-      ∙ (one_step σ sound τ H rooted i P z l (λ p pl. minimal i p f z l pl) (placed (τ.par i) (let h = par_lt i z l in omega arith))).below (P i) (placed i (omega arith))
+      ∙ (one_step σ sound τ H rooted i P z l (λ p pl. minimal i p f l pl) (placed (τ.par i) (let h = par_lt i z l in omega arith))).below (P i) (placed i (omega arith))
 
   pub climb : (d i : ℕ) (Q : ℕ → ℕ) → k ≤ i → i + d ≡ τ.m → 0 < i → Placed τ Q → σ.leq (bound σ τ H i Q) (score σ τ Q) ≡ true
   climb zero i Q f e z placed = let e' : i ≡ τ.m = omega arith in ap (λ y. σ.leq (bound σ τ H y Q) (score σ τ Q)) e' ∙ ap (λ v. σ.leq v (score σ τ Q)) (at_end σ sound τ H rooted Q) ∙ same_leq (score σ τ Q)
@@ -51,11 +52,11 @@ module _ {W : Type 0} (σ : Scale W) (sound : Sound σ) (τ : Task W) (H : ℕ �
   far : (i : ℕ) → i ≤ τ.m → (d : ℕ) × (i + d ≡ τ.m)
   far i l = (τ.m - i, omega arith)
 
-  pub never_below : (i : ℕ) (P Q : ℕ → ℕ) → k ≤ i → 0 < i → i ≤ τ.m → Agree i P Q → Placed τ Q → σ.leq (bound σ τ H i P) (score σ τ Q) ≡ true
+  pub never_below : (i : ℕ) (P Q : ℕ → ℕ) → k ≤ i → 0 < i → i ≤ τ.m → Same i P Q → Placed τ Q → σ.leq (bound σ τ H i P) (score σ τ Q) ≡ true
   never_below i P Q f z l same placed = ap (λ v. σ.leq v (score σ τ Q)) (local σ sound τ H rooted i P Q z same) ∙ climb (far i l).0 i Q f (far i l).1 z placed
 
   -- a plan from a prefix on that has its bound for a score
-  complete : (d i : ℕ) (P : ℕ → ℕ) → k ≤ i → i + d ≡ τ.m → 0 < i → ((s : ℕ) → s < i → P s < τ.n) → (bound σ τ H i P ≡ σ.none) ⊎ ((Q : ℕ → ℕ) × Placed τ Q × Agree i P Q × (score σ τ Q ≡ bound σ τ H i P))
+  complete : (d i : ℕ) (P : ℕ → ℕ) → k ≤ i → i + d ≡ τ.m → 0 < i → ((s : ℕ) → s < i → P s < τ.n) → (bound σ τ H i P ≡ σ.none) ⊎ ((Q : ℕ → ℕ) × Placed τ Q × Same i P Q × (score σ τ Q ≡ bound σ τ H i P))
   complete zero i P f e z placed = let e' : τ.m ≡ i = omega arith in inr (P, (λ s l. placed s (omega arith)), (λ _ _. refl), sym (at_end σ sound τ H rooted P) ∙ ap (λ y. bound σ τ H y P) e')
   complete (suc d) i P f e z placed = ⊎_elim inl
       (λ p. ⊎_elim
@@ -63,7 +64,7 @@ module _ {W : Type 0} (σ : Scale W) (sound : Sound σ) (τ : Task W) (H : ℕ �
       (λ c. inr (c.0, c.1, (λ s l. sym (put_else P i p.0 s (λ d. omega arith)) ∙ c.2 s (omega arith)), c.3 ∙ p.2))
       (complete d (i + 1) (put P i p.0) (omega arith) (omega arith) (omega arith)
       (λ s l. ⊎_elim (λ h. subst (λ (q : ℕ). q < τ.n) (sym (ap (put P i p.0) h ∙ put_here P i p.0)) p.1) (λ h. subst (λ (q : ℕ). q < τ.n) (sym (put_else P i p.0 s h)) (placed s (⊎_elim (λ g. g) (λ g. absurd (h (omega arith))) (cases_lt s i)))) (cases_eq s i))))
-      (one_step σ sound τ H rooted i P z (omega arith) (λ p' pl. minimal i p' f z (omega arith) pl) (placed (τ.par i) (par_lt i z (omega arith)))).met
+      (one_step σ sound τ H rooted i P z (omega arith) (λ p' pl. minimal i p' f (omega arith) pl) (placed (τ.par i) (par_lt i z (omega arith)))).met
 
   pub bound_is_least : (i : ℕ) (P : ℕ → ℕ) → k ≤ i → 0 < i → i ≤ τ.m → ((s : ℕ) → s < i → P s < τ.n) → LeastFrom σ τ i P (bound σ τ H i P)
   bound_is_least i P f z l placed = record {
@@ -75,21 +76,21 @@ module _ {W : Type 0} (σ : Scale W) (sound : Sound σ) (τ : Task W) (H : ℕ �
   par_below : (i : ℕ) → 0 < i → i < τ.m → τ.par i < i
   par_below i z l = rooted.1 i z l
 
-  never_under : (i : ℕ) (P Q : ℕ → ℕ) → 0 < i → i ≤ τ.m → Agree i P Q → Placed τ Q → σ.leq (bound σ τ H i P) (score σ τ Q) ≡ true
-  never_under i P Q = never_below σ sound τ H rooted 0 (λ s p _ z l h. minimal s p z l h) i P Q (omega arith)
+  never_under : (i : ℕ) (P Q : ℕ → ℕ) → 0 < i → i ≤ τ.m → Same i P Q → Placed τ Q → σ.leq (bound σ τ H i P) (score σ τ Q) ≡ true
+  never_under i P Q z = never_below σ sound τ H rooted 1 minimal i P Q (omega arith) z
 
-  pub swap : (P P' : ℕ → ℕ) (i r : ℕ) → Agree i P P' → bound σ τ H (i + 1) (put P' i r) ≡ bound σ τ H (i + 1) (put P i r)
+  pub swap : (P P' : ℕ → ℕ) (i r : ℕ) → Same i P P' → bound σ τ H (i + 1) (put P' i r) ≡ bound σ τ H (i + 1) (put P i r)
   swap P P' i r same = local σ sound τ H rooted (i + 1) (put P' i r) (put P i r) (omega arith) (put_agree P' (put P i r) i r (λ s k. sym (same s k) ∙ sym (put_else P i r s (λ x. omega arith))) (sym (put_here P i r)))
 
   -- one stop more with the first place of the least bound
   module _ (P P' : ℕ → ℕ) (j : ℕ) (out : ℕ → Bool) (v : W) (some : v ≡ σ.none → ⊥) where
-    placed_more : (i q : ℕ) → ((s : ℕ) → s < i → P s < τ.n) → q < τ.n → Agree i P P' → P' i ≡ q → (s : ℕ) → s < i + 1 → P' s < τ.n
+    placed_more : (i q : ℕ) → ((s : ℕ) → s < i → P s < τ.n) → q < τ.n → Same i P P' → P' i ≡ q → (s : ℕ) → s < i + 1 → P' s < τ.n
     placed_more i q placed lt same e s l = ⊎_elim (λ h. subst (λ (x : ℕ). x < τ.n) (same s h) (placed s h)) (λ h. let d : s ≡ i = omega arith in subst (λ (x : ℕ). x < τ.n) (sym (ap P' d ∙ e)) lt) (cases_lt s i)
 
-    bound_more : (i q : ℕ) → Agree i P P' → P' i ≡ q → bound σ τ H (i + 1) P' ≡ bound σ τ H (i + 1) (put P i q)
+    bound_more : (i q : ℕ) → Same i P P' → P' i ≡ q → bound σ τ H (i + 1) P' ≡ bound σ τ H (i + 1) (put P i q)
     bound_more i q same e = local σ sound τ H rooted (i + 1) P' (put P i q) (omega arith) (λ s k. sym (put_agree P P' i q same (sym e) s k))
 
-    pub found_start : (q : ℕ) → ((s : ℕ) → s < j → P s < τ.n) → Picked σ τ.n out (λ r. bound σ τ H (j + 1) (put P j r)) q v → Agree j P P' → P' j ≡ q → Found σ τ H (j + 1) P' j out v
+    pub found_start : (q : ℕ) → ((s : ℕ) → s < j → P s < τ.n) → Picked σ τ.n out (λ r. bound σ τ H (j + 1) (put P j r)) q v → Same j P P' → P' j ≡ q → Found σ τ H (j + 1) P' j out v
     found_start q placed pick same e = let t = pick.there some in record {
       placed = placed_more j q placed t.0 same e;
       allowed = ap out e ∙ t.1;
@@ -99,7 +100,7 @@ module _ {W : Type 0} (σ : Scale W) (sound : Sound σ) (τ : Task W) (H : ℕ �
           (ap (λ w. σ.leq w v) (swap P P' j r same) ∙ pick.first some r (subst (λ (x : ℕ). r < x) (ap P' d ∙ e) h) (allowed d));
     }
 
-    pub found_more : (i q : ℕ) (u : W) → j < i → i < τ.m → Found σ τ H i P j out v → Picked σ τ.n (λ _. false) (λ r. bound σ τ H (i + 1) (put P i r)) q u → Agree i P P' → P' i ≡ q → Found σ τ H (i + 1) P' j out v
+    pub found_more : (i q : ℕ) (u : W) → j < i → i < τ.m → Found σ τ H i P j out v → Picked σ τ.n (λ _. false) (λ r. bound σ τ H (i + 1) (put P i r)) q u → Same i P P' → P' i ≡ q → Found σ τ H (i + 1) P' j out v
     found_more i q u jl l found pick same e = record {
       placed = placed_more i q found.placed t.0 same e;
       allowed = ap out (sym (same j jl)) ∙ found.allowed;
@@ -162,11 +163,11 @@ module _ {W : Type 0} (σ : Scale W) (sound : Sound σ) (τ : Task W) (H : ℕ �
       itself = record { placed = f.placed; deep = first.deep some; same = λ _ _. refl; allowed = f.allowed }
 
       -- every other plan of S comes after the first
-      pub others : (Q : ℕ → ℕ) → In τ S Q → Agree τ.m S.places Q ⊎ Before σ τ S.places Q
+      pub others : (Q : ℕ → ℕ) → In τ S Q → Same τ.m S.places Q ⊎ Before σ τ S.places Q
       unfolding f
       others Q q = ⊎_elim inl (λ p. inr (apart p.0 p.1 p.2 p.3)) (differ τ.m S.places Q)
         where
-          apart : (i : ℕ) → i < τ.m → Agree i S.places Q → (S.places i ≡ Q i → ⊥) → Before σ τ S.places Q
+          apart : (i : ℕ) → i < τ.m → Same i S.places Q → (S.places i ≡ Q i → ⊥) → Before σ τ S.places Q
           apart i l same d =
               let deep : S.depth ≤ i = ⊎_elim (λ h. absurd (d (q.same i h))) (λ h. h) (cases_lt i S.depth) in
               let at : i ≡ S.depth → S.excluded (Q i) ≡ false = λ e. ap (λ k. S.excluded (Q k)) e ∙ q.allowed in
@@ -181,7 +182,7 @@ module _ {W : Type 0} (σ : Scale W) (sound : Sound σ) (τ : Task W) (H : ℕ �
               (cases_Bool (σ.leq (score σ τ Q) S.worth))
 
       -- and is in the part of the stop where it differs first
-      pub falls : (Q : ℕ → ℕ) → In τ S Q → (Agree τ.m S.places Q → ⊥) → (t : ℕ) × (S.depth ≤ t) × (t < τ.m) × ((S' : Subspace W) → Split S t S' → In τ S' Q)
+      pub falls : (Q : ℕ → ℕ) → In τ S Q → (Same τ.m S.places Q → ⊥) → (t : ℕ) × (S.depth ≤ t) × (t < τ.m) × ((S' : Subspace W) → Split S t S' → In τ S' Q)
       falls Q q other = ⊎_elim (λ same. absurd (other same)) (λ p.
           let i = p.0 in let deep : S.depth ≤ p.0 = ⊎_elim (λ h. absurd (p.3 (q.same p.0 h))) (λ h. h) (cases_lt p.0 S.depth) in (
             p.0,

@@ -4,7 +4,7 @@ use Rattle.measures.specs.Optional.{both}
 use Rattle.std.proofs.lemmas.Bool.{false≢true}
 use Rattle.measures.specs.Laws.{Laws}
 use Rattle.measures.specs.Meaning.{MeasureMeaning}
-use Rattle.trees.specs.Scales.{optional, at_most, Sound}
+use Rattle.measures.specs.Scales.{optional, at_most, Sound}
 
 module _ {V : Type 0} (meaning : MeasureMeaning V) (laws : Laws meaning.nought meaning.joined meaning.before) where
   total' : (a b : Option V) → (at_most meaning.before a b ≡ true) ⊎ (at_most meaning.before b a ≡ true)

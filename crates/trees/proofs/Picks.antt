@@ -1,7 +1,7 @@
 -- One place more in the search for the first least.
 use Rattle.std.proofs.Common.{◌≡◌, ℕ, ◌+◌, ◌<◌, Bool, true, false, refl, subst, ⊎_elim, arith}
 use Rattle.std.proofs.lemmas.Bool.{both_ways, cases_lt, cases_Bool}
-use Rattle.trees.specs.Scales.{Scale, Sound}
+use Rattle.measures.specs.Scales.{Scale, Sound}
 use Rattle.trees.specs.Subspaces.{Picked}
 
 module _ {W : Type 0} (σ : Scale W) (sound : Sound σ) (i : ℕ) (out : ℕ → Bool) (f : ℕ → W) (q : ℕ) (v : W) (p : Picked σ i out f q v) where

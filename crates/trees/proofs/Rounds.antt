@@ -2,13 +2,14 @@
 use Rattle.std.proofs.Common.{◌≡◌, ℕ, ◌+◌, ◌-◌, ◌<◌, ◌≤◌, true, false, cond, eqb, ◌⊎◌, List, [], ◌∷◌, sym, refl, ap, ◌∙◌, subst, ap₂, inl, inr, ⊎_elim, arith}
 use Rattle.std.proofs.lemmas.Bool.{both_ways, cases_lt, cases_eq, cases_Bool, cases_order, cond-true, cond-false, eq-eqb, ne_eqb}
 use Rattle.std.proofs.lemmas.Bool.Decides.{nat_tests as tells}
-use Rattle.trees.specs.Scales.{Scale, Sound}
-use Rattle.trees.specs.Tasks.{Task, score, Rooted, Placed, Agree, Earlier, Before, cost}
+use Rattle.measures.specs.Scales.{Scale, Sound}
+use Rattle.trees.specs.Tasks.{Task, score, Rooted, Placed, Before, cost}
 use Rattle.trees.specs.Minima.{Minimal}
 use Rattle.trees.specs.Subspaces.{Subspace, In, First, Split}
 use Rattle.trees.specs.Rounds.{Unlike, AllBefore, InOrder, FirstLeft, NoneLeft, InTurn, nothing, next, Partition, Chosen, Parted}
 use Rattle.trees.proofs.Bounds.{total_same}
 use Rattle.trees.proofs.Firsts.{true_score, itself, others, falls, empty}
+use Rattle.sets.specs.Placements.{Same, Earlier}
 
 module _ {W : Type 0} (σ : Scale W) (sound : Sound σ) (τ : Task W) where
   leq_false : (a b c : W) → σ.leq b a ≡ false → σ.leq b c ≡ true → σ.leq c a ≡ false
@@ -32,20 +33,20 @@ module _ {W : Type 0} (σ : Scale W) (sound : Sound σ) (τ : Task W) where
       (λ p. ⊎_elim (λ q. inl (ap (σ.leq (score σ τ R)) p.0 ∙ q)) (λ q. inr (p.0 ∙ q.0, earlier_trans τ.m P Q R p.1 q.1)) b)
       a
 
-  same_score : (P Q : ℕ → ℕ) → Rooted τ → Agree τ.m P Q → score σ τ P ≡ score σ τ Q
+  same_score : (P Q : ℕ → ℕ) → Rooted τ → Same τ.m P Q → score σ τ P ≡ score σ τ Q
   unfolding score
   same_score P Q rooted same = total_same σ sound τ.m _ _ (λ s l. ap₂ (cost σ τ s) (same (τ.par s) (par_in s l)) (same s l))
     where
       par_in : (s : ℕ) → s < τ.m → τ.par s < τ.m
       par_in s l = ⊎_elim (λ z. let e : τ.par s ≡ 0 = ap τ.par z ∙ rooted.0 in omega arith) (λ z. let h = rooted.1 s (⊎_elim (λ g. g) (λ g. absurd (z (omega arith))) (cases_lt 0 s)) l in omega arith) (cases_eq s 0)
 
-  before_right : (P Q R : ℕ → ℕ) → Rooted τ → Before σ τ P Q → Agree τ.m Q R → Before σ τ P R
+  before_right : (P Q R : ℕ → ℕ) → Rooted τ → Before σ τ P Q → Same τ.m Q R → Before σ τ P R
   before_right P Q R rooted b same = ⊎_elim
       (λ p. inl (ap (λ v. σ.leq v (score σ τ P)) (sym (same_score Q R rooted same)) ∙ p))
       (λ p. inr (p.0 ∙ same_score Q R rooted same, (p.1.0, p.1.1, (λ s l. p.1.2 s l ∙ same s (let h = p.1.1 in omega arith)), subst (λ (q : ℕ). P p.1.0 < q) (same p.1.0 p.1.1) p.1.3)))
       b
 
-  before_left : (P Q R : ℕ → ℕ) → Rooted τ → Agree τ.m P Q → Before σ τ Q R → Before σ τ P R
+  before_left : (P Q R : ℕ → ℕ) → Rooted τ → Same τ.m P Q → Before σ τ Q R → Before σ τ P R
   before_left P Q R rooted same b = ⊎_elim
       (λ p. inl (ap (σ.leq (score σ τ R)) (same_score P Q rooted same) ∙ p))
       (λ p. inr (same_score P Q rooted same ∙ p.0, (p.1.0, p.1.1, (λ s l. same s (let h = p.1.1 in omega arith) ∙ p.1.2 s l), subst (λ (q : ℕ). q < R p.1.0) (sym (same p.1.0 p.1.1)) p.1.3)))
@@ -60,7 +61,7 @@ module _ {W : Type 0} (σ : Scale W) (sound : Sound σ) (τ : Task W) where
   not_none : (a : W) → (a ≡ σ.none → ⊥) → σ.leq σ.none a ≡ false
   not_none a d = ⊎_elim (λ t. absurd (d (sound.laws.antisym a σ.none (sound.worst a) t))) (λ t. t) (cases_Bool (σ.leq σ.none a))
 
-  in_agree : (S : Subspace W) (P Q : ℕ → ℕ) → S.depth < τ.m → In τ S P → Agree τ.m P Q → In τ S Q
+  in_agree : (S : Subspace W) (P Q : ℕ → ℕ) → S.depth < τ.m → In τ S P → Same τ.m P Q → In τ S Q
   in_agree S P Q deep p same = record {
     placed = λ s l. subst (λ (q : ℕ). q < τ.n) (same s l) (p.placed s l);
     deep = p.deep;
@@ -69,7 +70,7 @@ module _ {W : Type 0} (σ : Scale W) (sound : Sound σ) (τ : Task W) where
   }
 
   -- a part holds only plans of the whole, and none that agrees at its depth
-  pub part_in : (S S' : Subspace W) (t : ℕ) (Q : ℕ → ℕ) → S.depth ≤ t → S.excluded (S.places S.depth) ≡ false → Split S t S' → In τ S' Q → In τ S Q × Agree t S.places Q × (S.places t ≡ Q t → ⊥)
+  pub part_in : (S S' : Subspace W) (t : ℕ) (Q : ℕ → ℕ) → S.depth ≤ t → S.excluded (S.places S.depth) ≡ false → Split S t S' → In τ S' Q → In τ S Q × Same t S.places Q × (S.places t ≡ Q t → ⊥)
   part_in S S' t Q le fits split q = (
     record {
       placed = q.placed;
@@ -81,14 +82,14 @@ module _ {W : Type 0} (σ : Scale W) (sound : Sound σ) (τ : Task W) where
     λ e. tells.0 (sym e),
   )
     where
-      same : Agree t S.places Q
+      same : Same t S.places Q
       same s l = split.same s l ∙ q.same s (subst (λ (k : ℕ). s < k) (sym split.depth) l)
 
       tells : (Q t ≡ S.places t → ⊥) × (t ≡ S.depth → S.excluded (Q t) ≡ false)
       tells = split.to (Q t) (ap (λ k. S'.excluded (Q k)) (sym split.depth) ∙ q.allowed)
 
 -- there is one stop where two plans differ first
-pub one_place : (P Q : ℕ → ℕ) (t u : ℕ) → Agree t P Q → (P t ≡ Q t → ⊥) → Agree u P Q → (P u ≡ Q u → ⊥) → t ≡ u
+pub one_place : (P Q : ℕ → ℕ) (t u : ℕ) → Same t P Q → (P t ≡ Q t → ⊥) → Same u P Q → (P u ≡ Q u → ⊥) → t ≡ u
 one_place P Q t u a d b e = ⊎_elim (λ h. h) (λ o. ⊎_elim (λ h. absurd (d (b t h))) (λ h. absurd (e (a u h))) o) (cases_order t u)
 
 -- a and b change places
@@ -142,7 +143,7 @@ module _ {W : Type 0} (σ : Scale W) (sound : Sound σ) (τ : Task W) (H : ℕ �
         (at + (t - ((E w).depth + 1)), parted.room (t - ((E w).depth + 1)) l', subst (λ (k : ℕ). Split (E w) k (E' (at + (t - ((E w).depth + 1))))) e (parted.behind (t - ((E w).depth + 1)) l')))
         (cases_eq t (E w).depth)
 
-    part : (v t : ℕ) (Q : ℕ → ℕ) → (E w).depth ≤ t → Split (E w) t (E' v) → In τ (E' v) Q → In τ (E w) Q × Agree t (E w).places Q × ((E w).places t ≡ Q t → ⊥)
+    part : (v t : ℕ) (Q : ℕ → ℕ) → (E w).depth ≤ t → Split (E w) t (E' v) → In τ (E' v) Q → In τ (E w) Q × Same t (E w).places Q × ((E w).places t ≡ Q t → ⊥)
     part v t Q le split q = part_in σ sound τ (E w) (E' v) t Q le itself_in.allowed split q
 
     cover' : (Q : ℕ → ℕ) → Placed τ Q → Unlike τ.m ((E w).places ∷ given) Q → (v : ℕ) × (v < len) × In τ (E' v) Q
@@ -197,7 +198,7 @@ module _ {W : Type 0} (σ : Scale W) (sound : Sound σ) (τ : Task W) (H : ℕ �
       mine : score σ τ (E w).places ≡ (E w).worth
       mine = true_score σ sound τ H rooted minimal (E w) own chosen.some
 
-      against : (Q : ℕ → ℕ) → Placed τ Q → Unlike τ.m given Q → Agree τ.m (E w).places Q ⊎ Before σ τ (E w).places Q
+      against : (Q : ℕ → ℕ) → Placed τ Q → Unlike τ.m given Q → Same τ.m (E w).places Q ⊎ Before σ τ (E w).places Q
       against Q placed unlike = let p = waits.cover Q placed unlike in let first = waits.first p.0 p.1 in ⊎_elim
           (λ none. inr (inl (ap₂ σ.leq (empty σ sound τ H rooted minimal (E p.0) first none Q p.2) mine ∙ not_none σ sound τ (E w).worth chosen.some)))
           (λ some. let away = others σ sound τ H rooted minimal (E p.0) first some Q p.2 in ⊎_elim

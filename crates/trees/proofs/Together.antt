@@ -1,13 +1,20 @@
 -- The statements, put together.
 use Rattle.std.proofs.Common.{◌≡◌, false, inl, inr, ⊎_elim, arith}
-use Rattle.trees.specs.Scales.{Scale, Sound}
-use Rattle.trees.specs.Statements.{BoundIsLeast, FirstComesFirst, SplitLosesNothing, LeastIsFirstLeft, NoneWaiting, SplitKeepsPartition, InTurnInOrder}
+use Rattle.measures.specs.Scales.{Scale, Sound}
+use Rattle.trees.specs.Statements.{BoundIsLeast, SubtreesAddUp, MinimaAreLeast, FirstComesFirst, SplitLosesNothing, LeastIsFirstLeft, NoneWaiting, SplitKeepsPartition, InTurnInOrder}
 use Rattle.trees.proofs.Firsts.{bound_is_least, differ, true_score, itself, others, falls, empty}
+use Rattle.trees.proofs.Subtrees.{in_by_parent, link_and_subtree, whole_tree, subtree_least, hung_least}
 use Rattle.trees.proofs.Rounds.{part_in, one_place, chosen_foremost, all_none, step, all_before, in_order}
 
 module _ {W : Type 0} (σ : Scale W) (sound : Sound σ) where
   pub bounds : BoundIsLeast σ
-  bounds τ H rooted minimal i P z l placed = bound_is_least σ sound τ H rooted 0 (λ s p _. minimal s p) i P (omega arith) z l placed
+  bounds τ H rooted minimal i P z l placed = bound_is_least σ sound τ H rooted 1 minimal i P (omega arith) z l placed
+
+  pub sums : SubtreesAddUp σ
+  sums τ rooted = (in_by_parent τ rooted, link_and_subtree σ sound τ rooted, whole_tree σ sound τ rooted)
+
+  pub minima : MinimaAreLeast σ
+  minima τ H rooted minimal s l = record { at = subtree_least σ sound τ H rooted minimal s l; under = hung_least σ sound τ H rooted minimal s l }
 
   pub firsts : FirstComesFirst σ
   firsts τ H rooted minimal S first = (

@@ -1,13 +1,14 @@
 -- The plans given in turn, and the waiting subspaces that hold those not given.
 use Rattle.std.specs.Prelude.{◌≡◌, ℕ, ◌+◌, ◌<◌, ◌⊎◌, List, [], ◌∷◌, ◌≢◌}
-use Rattle.trees.specs.Scales.{Scale}
-use Rattle.trees.specs.Tasks.{Task, score, Placed, Agree, Before}
+use Rattle.measures.specs.Scales.{Scale}
+use Rattle.trees.specs.Tasks.{Task, score, Placed, Before}
 use Rattle.trees.specs.Subspaces.{Subspace, In, First, Split}
+use Rattle.sets.specs.Placements.{Same}
 
 -- Q is none of the plans given
 abbrev pub Unlike : ℕ → List (ℕ → ℕ) → (ℕ → ℕ) → Type 0
 Unlike m [] Q = Unit {0}
-Unlike m (G ∷ given) Q = (Agree m G Q → ⊥) × Unlike m given Q
+Unlike m (G ∷ given) Q = (Same m G Q → ⊥) × Unlike m given Q
 
 -- every plan given comes before Q
 abbrev pub AllBefore : {W : Type 0} → Scale W → Task W → List (ℕ → ℕ) → (ℕ → ℕ) → Type 0
@@ -25,7 +26,7 @@ pub record FirstLeft {W : Type 0} (σ : Scale W) (τ : Task W) (given : List (�
   pub scored : score σ τ P ≡ v
   pub some : v ≡ σ.none → ⊥
   pub new : Unlike τ.m given P
-  pub foremost : (Q : ℕ → ℕ) → Placed τ Q → Unlike τ.m given Q → Agree τ.m P Q ⊎ Before σ τ P Q
+  pub foremost : (Q : ℕ → ℕ) → Placed τ Q → Unlike τ.m given Q → Same τ.m P Q ⊎ Before σ τ P Q
 
 -- no plan is left: whatever is not given has no score
 abbrev pub NoneLeft : {W : Type 0} → Scale W → Task W → List (ℕ → ℕ) → Type 0
@@ -48,7 +49,7 @@ pub record Partition {W : Type 0} (σ : Scale W) (τ : Task W) (H : ℕ → ℕ 
 pub record Chosen {W : Type 0} (σ : Scale W) (τ : Task W) (len : ℕ) (E : ℕ → Subspace W) (w : ℕ) : Type 0 where
   pub within : w < len
   pub some : (E w).worth ≡ σ.none → ⊥
-  pub least : (v : ℕ) → v < len → ((E v).worth ≢ σ.none) → Agree τ.m (E w).places (E v).places ⊎ Before σ τ (E w).places (E v).places
+  pub least : (v : ℕ) → v < len → ((E v).worth ≢ σ.none) → Same τ.m (E w).places (E v).places ⊎ Before σ τ (E w).places (E v).places
 
 -- subspace w is split by its first plan: the part at its own depth takes its place, and the parts at the stops behind
 -- take the places from `at` on, which were empty; every other subspace stays

@@ -1,8 +1,9 @@
 -- Subspaces of plans, the first plan of each, and the split by it.
 use Rattle.std.specs.Prelude.{◌≡◌, ℕ, zero, suc, ◌+◌, ◌<◌, ◌≤◌, Bool, true, false, cond, ◌==◌, ◌≢◌, nat_lt}
-use Rattle.trees.specs.Scales.{Scale}
-use Rattle.trees.specs.Tasks.{Task, Placed, Agree, put}
+use Rattle.measures.specs.Scales.{Scale}
+use Rattle.trees.specs.Tasks.{Task, Placed, put}
 use Rattle.trees.specs.Minima.{bound}
+use Rattle.sets.specs.Placements.{Same}
 
 -- A subspace: the plans that have the given places for the stops below its depth and no excluded place at that stop;
 -- with the first of them, and that plan's score or none. A depth that is no stop makes an empty subspace.
@@ -16,7 +17,7 @@ pub record Subspace (W : Type 0) : Type 0 where
 pub record In {W : Type 0} (τ : Task W) (S : Subspace W) (Q : ℕ → ℕ) : Type 0 where
   pub placed : Placed τ Q
   pub deep : S.depth < τ.m
-  pub same : Agree S.depth S.places Q
+  pub same : Same S.depth S.places Q
   pub allowed : S.excluded (Q S.depth) ≡ false
 
 -- q is the first place below n, of those not excluded, where f is least, and v is that least value, none if there is none
@@ -41,7 +42,7 @@ pub record First {W : Type 0} (σ : Scale W) (τ : Task W) (H : ℕ → ℕ → 
 -- S' holds the plans of S that differ from its first plan at stop t for the first time
 pub record Split {W : Type 0} (S : Subspace W) (t : ℕ) (S' : Subspace W) : Type 0 where
   pub depth : S'.depth ≡ t
-  pub same : Agree t S.places S'.places
+  pub same : Same t S.places S'.places
   pub to : (r : ℕ) → S'.excluded r ≡ false → (r ≢ S.places t) × (t ≡ S.depth → S.excluded r ≡ false)
   pub from : (r : ℕ) → (r ≢ S.places t) → (t ≡ S.depth → S.excluded r ≡ false) → S'.excluded r ≡ false
 

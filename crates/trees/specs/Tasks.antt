@@ -1,6 +1,7 @@
 -- Trees of stops over tables of values: plans, their scores and their order.
-use Rattle.std.specs.Prelude.{◌≡◌, ℕ, zero, suc, ◌<◌, true, false, cond, ◌⊎◌, ◌==◌}
-use Rattle.trees.specs.Scales.{Scale}
+use Rattle.std.specs.Prelude.{◌≡◌, ℕ, ◌<◌, true, false, cond, ◌⊎◌, ◌==◌}
+use Rattle.measures.specs.Scales.{Scale, total}
+use Rattle.sets.specs.Placements.{Same, Earlier}
 
 -- n places and m stops; each stop's parent; a stop's own value at a place (none where the place does not fit); and the
 -- value of a stop's link from its parent's place to its own (none where there is no such link)
@@ -19,11 +20,6 @@ Rooted τ = (τ.par 0 ≡ 0) × ((s : ℕ) → 0 < s → s < τ.m → τ.par s <
 unfoldable pub cost : {W : Type 0} → Scale W → Task W → ℕ → ℕ → ℕ → W
 cost σ τ s p q = cond (s == 0) (τ.own s q) (σ.joined (τ.own s q) (τ.link s p q))
 
--- the join of f 0 .. f (k - 1)
-unfoldable pub total : {W : Type 0} → Scale W → ℕ → (ℕ → W) → W
-total σ zero f = σ.nought
-total σ (suc k) f = σ.joined (total σ k f) (f k)
-
 -- the score of the places P: the join of all own values and all links, none where one of them is none
 unfoldable pub score : {W : Type 0} → Scale W → Task W → (ℕ → ℕ) → W
 score σ τ P = total σ τ.m (λ s. cost σ τ s (P (τ.par s)) (P s))
@@ -31,14 +27,6 @@ score σ τ P = total σ τ.m (λ s. cost σ τ s (P (τ.par s)) (P s))
 -- every stop has a place below n; P is a plan where its score is not none
 abbrev pub Placed : {W : Type 0} → Task W → (ℕ → ℕ) → Type 0
 Placed τ P = (s : ℕ) → s < τ.m → P s < τ.n
-
--- the same places for the stops below i
-abbrev pub Agree : ℕ → (ℕ → ℕ) → (ℕ → ℕ) → Type 0
-Agree i P Q = (s : ℕ) → s < i → P s ≡ Q s
-
--- at the first stop where they differ P has the smaller place
-abbrev pub Earlier : ℕ → (ℕ → ℕ) → (ℕ → ℕ) → Type 0
-Earlier m P Q = (s : ℕ) × (s < m) × Agree s P Q × (P s < Q s)
 
 -- P comes before Q: it has the lower score, or at equal scores the earlier places
 abbrev pub Before : {W : Type 0} → Scale W → Task W → (ℕ → ℕ) → (ℕ → ℕ) → Type 0
@@ -48,7 +36,11 @@ Before σ τ P Q = (σ.leq (score σ τ Q) (score σ τ P) ≡ false) ⊎ ((scor
 abbrev pub put : (ℕ → ℕ) → ℕ → ℕ → ℕ → ℕ
 put P i q s = cond (s == i) q (P s)
 
+-- of all places Q for the stops that fit, w is the least value, none where none of them has a value
+pub record LeastOf {W : Type 0} (σ : Scale W) (τ : Task W) (Fits : (ℕ → ℕ) → Type 0) (value : (ℕ → ℕ) → W) (w : W) : Type 0 where
+  pub lower : (Q : ℕ → ℕ) → Placed τ Q → Fits Q → σ.leq w (value Q) ≡ true
+  pub reached : (w ≡ σ.none) ⊎ ((Q : ℕ → ℕ) × Placed τ Q × Fits Q × (value Q ≡ w))
+
 -- w is the least score of all plans with P's places for the stops below i, none where there is no such plan
-pub record LeastFrom {W : Type 0} (σ : Scale W) (τ : Task W) (i : ℕ) (P : ℕ → ℕ) (w : W) : Type 0 where
-  pub lower : (Q : ℕ → ℕ) → Placed τ Q → Agree i P Q → σ.leq w (score σ τ Q) ≡ true
-  pub reached : (w ≡ σ.none) ⊎ ((Q : ℕ → ℕ) × Placed τ Q × Agree i P Q × (score σ τ Q ≡ w))
+abbrev pub LeastFrom : {W : Type 0} → Scale W → Task W → ℕ → (ℕ → ℕ) → W → Type 0
+LeastFrom σ τ i P w = LeastOf σ τ (Same i P) (score σ τ) w

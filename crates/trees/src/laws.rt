@@ -1,5 +1,5 @@
-ghost use Rattle.trees.specs.Scales.{optional};
-ghost use Rattle.trees.specs.Statements.{BoundIsLeast, FirstComesFirst, SplitLosesNothing, LeastIsFirstLeft, NoneWaiting, SplitKeepsPartition, InTurnInOrder};
+ghost use Rattle.measures.specs.Scales.{optional};
+ghost use Rattle.trees.specs.Statements.{BoundIsLeast, SubtreesAddUp, MinimaAreLeast, FirstComesFirst, SplitLosesNothing, LeastIsFirstLeft, NoneWaiting, SplitKeepsPartition, InTurnInOrder};
 
 use measures::Measure;
 
@@ -8,6 +8,20 @@ use measures::Measure;
 // The bound of a prefix is the least score of a plan that begins with it.
 pub fn bound_is_least<M: Measure>() -> u8
     ensures { BoundIsLeast (optional M.Measure.meaning) }
+{
+    0
+}
+
+// The values of subtrees are made of their stops, links and subtrees, up to the score.
+pub fn subtrees_add_up<M: Measure>() -> u8
+    ensures { SubtreesAddUp (optional M.Measure.meaning) }
+{
+    0
+}
+
+// Each minimum is the least value of its subtree over all places.
+pub fn minima_are_least<M: Measure>() -> u8
+    ensures { MinimaAreLeast (optional M.Measure.meaning) }
 {
     0
 }

@@ -1,4 +1,3 @@
 pub mod Keeping
 pub mod Stepping
-pub mod Leasts
 pub mod Starting

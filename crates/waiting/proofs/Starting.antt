@@ -7,7 +7,7 @@ use Rattle.measures.specs.Meaning.{MeasureMeaning}
 use Rattle.jobs.specs.declared.job.Job.{Job}
 use Rattle.jobs.specs.Jobs.{stops_of}
 use Rattle.sets.specs.Sets.{has_bit}
-use Rattle.trees.specs.Scales.{optional}
+use Rattle.measures.specs.Scales.{optional}
 use Rattle.trees.specs.Tasks.{Task}
 use Rattle.trees.specs.Subspaces.{First}
 use Rattle.trees.specs.Rounds.{Partition}
@@ -16,7 +16,7 @@ use Rattle.trees.proofs.Rounds.{start}
 use Rattle.cells.specs.declared.cell.Cell.{Cell}
 use Rattle.cells.specs.declared.cell.Entry.{Entry}
 use Rattle.cells.specs.Cells.{space_of}
-use Rattle.cells.specs.Tables.{blank, entry_in}
+use Rattle.tables.specs.Tables.{blank, entry_in}
 use Rattle.minima.specs.Tables.{Tables}
 use Rattle.waiting.specs.Queues.{waiting_in, NoSpace, Safe, Queue}
 use Rattle.waiting.proofs.Keeping.{same_entry}
@@ -38,8 +38,9 @@ module _ {M V : Type 0} (mid new : List (Cell M V)) (n m base k : ℕ) (first : 
       (λ d. rest (entry_in new (base + w)) (at_rest w (⊎_elim (λ g. g) (λ g. absurd (d (omega arith))) (cases_lt 0 w)) l))
       (cases_eq w 0)
 
-  pub queue_start : Safe n m first → Queue new base n m k 1
+  pub queue_start : Safe n m first → Queue new base n m k 0
   queue_start safe = record {
+    heads = λ v z h l. (at_rest v z (let e = mul-le k 1 k m (omega arith) some in omega arith)).1;
     free = λ w h l. (at_rest w (omega arith) l).1;
     safe = each (Safe n m) safe (λ e no some. absurd (some no.0));
   }

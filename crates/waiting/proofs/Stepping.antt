@@ -1,5 +1,5 @@
 -- The step of the partition, from what the calls of the split say.
-use Rattle.std.proofs.Common.{◌≡◌, ℕ, ◌+◌, ◌-◌, ◌*◌, ◌<◌, ◌≤◌, ◌||◌, eqb, List, ◌∷◌, get_or, Option, sym, refl, ap, ◌∙◌, subst, ⊎_elim, arith}
+use Rattle.std.proofs.Common.{◌≡◌, ℕ, ◌+◌, ◌-◌, ◌*◌, ◌<◌, ◌≤◌, ◌||◌, eqb, ◌⊎◌, List, ◌∷◌, get_or, Option, sym, refl, ap, ◌∙◌, subst, ⊎_elim, arith}
 use Rattle.std.proofs.lemmas.Nat.{mul-le}
 use Rattle.std.proofs.lemmas.Bool.{cases_lt, cases_eq, eqb-false, ne_eqb, or_parts, or_from}
 use Rattle.measures.specs.Laws.{Laws}
@@ -7,8 +7,8 @@ use Rattle.measures.specs.Meaning.{MeasureMeaning}
 use Rattle.jobs.specs.declared.job.Job.{Job}
 use Rattle.jobs.specs.Jobs.{stops_of}
 use Rattle.sets.specs.Sets.{has_bit}
-use Rattle.trees.specs.Scales.{optional}
-use Rattle.trees.specs.Tasks.{Task, Agree}
+use Rattle.measures.specs.Scales.{optional}
+use Rattle.trees.specs.Tasks.{Task}
 use Rattle.trees.specs.Subspaces.{First, Split}
 use Rattle.trees.specs.Rounds.{Partition, Chosen}
 use Rattle.trees.proofs.Lift.{lifted}
@@ -16,10 +16,11 @@ use Rattle.trees.proofs.Rounds.{step}
 use Rattle.cells.specs.declared.cell.Cell.{Cell}
 use Rattle.cells.specs.declared.cell.Entry.{Entry}
 use Rattle.cells.specs.Cells.{places_of, space_of}
-use Rattle.cells.specs.Tables.{blank, entry_in, Kept}
+use Rattle.tables.specs.Tables.{blank, entry_in, Kept}
 use Rattle.minima.specs.Tables.{Tables}
 use Rattle.waiting.specs.Queues.{waiting_in, row_start, Part, Safe, Queue}
 use Rattle.waiting.proofs.Keeping.{same_entry}
+use Rattle.sets.specs.Placements.{Same}
 
 -- the entries of a row end before the next row, and before the end
 pub row_ends : (m k row : ℕ) → 1 ≤ m → row < k → row_start m k row + (m - 1) ≤ k * m
@@ -28,8 +29,8 @@ row_ends m k row s l = subst (λ (x : ℕ). row_start x k row + (x - 1) ≤ k * 
     ends : (d k row : ℕ) → row < k → row_start (d + 1) k row + (d + 1 - 1) ≤ k * (d + 1)
     ends d k row l = subst (λ (x : ℕ). k + row * x + x ≤ k * (d + 1)) (let e : d ≡ d + 1 - 1 = omega arith in e) (let a = mul-le (row + 1) d k d (omega arith) (omega arith) in omega arith)
 
--- an entry of a row in use stands in the cells
-pub within : (base w m k rows len : ℕ) → 1 ≤ m → m ≤ 12 → k ≤ 256 → rows < k → base + k * m ≤ len → w < row_start m k rows → base ≤ 4864 → (base + w < len) × (base + w ≤ 7936)
+-- a head in use stands in the cells
+pub within : (base w m k rows len : ℕ) → 1 ≤ m → m ≤ 12 → k ≤ 256 → rows < k → base + k * m ≤ len → w ≤ rows → base ≤ 4864 → (base + w < len) × (base + w ≤ 7936)
 within base w m k rows len some few small row room l low = let e = row_ends m k rows some row in let b = mul-le k m 256 12 small few in (omega arith, omega arith)
 
 pub next_row : (m k row : ℕ) → row_start m k (row + 1) ≡ row_start m k row + (m - 1)
@@ -44,11 +45,14 @@ pub record Facts {M V : Type 0} (old mid new : List (Cell M V)) (n m base at w :
   pub deep : e.depth < m
   pub depth : here.depth ≡ e.depth
   pub excluded : (r : ℕ) → has_bit here.excluded.bits r ≡ (has_bit e.excluded.bits r || eqb r (places_of e.places e.depth))
-  pub same : Agree e.depth (places_of e.places) (places_of here.places)
+  pub same : Same e.depth (places_of e.places) (places_of here.places)
   pub safe : Safe n m here
   pub parts : (u : ℕ) → u < m - (e.depth + 1) → Part e.places (e.depth + 1 + u) (entry_in new (at + u)) × Safe n m (entry_in new (at + u))
 
-module _ {M V : Type 0} (old mid new : List (Cell M V)) (n m base k rows w : ℕ) (here : Entry V) (f : Facts old mid new n m base (base + row_start m k rows) w (entry_in old (base + w)) here) (row : rows < k) (wl : w < row_start m k rows) where
+module _ {M V : Type 0} (old mid new : List (Cell M V)) (n m base k rows w : ℕ) (here : Entry V) (f : Facts old mid new n m base (base + row_start m k rows) w (entry_in old (base + w)) here) (row : rows < k) (head : w ≤ rows) where
+  wl : w < row_start m k rows
+  wl = omega arith
+
   pub at_w : entry_in new (base + w) ≡ here
   at_w = same_entry mid new (base + w) (f.before (base + w) (omega arith)) ∙ f.there
 
@@ -57,6 +61,9 @@ module _ {M V : Type 0} (old mid new : List (Cell M V)) (n m base k rows w : ℕ
 
   pub at_behind : (v : ℕ) → row_start m k rows + (m - ((entry_in old (base + w)).depth + 1)) ≤ v → entry_in new (base + v) ≡ entry_in old (base + v)
   at_behind v l = same_entry mid new (base + v) (f.behind (base + v) (omega arith)) ∙ same_entry old mid (base + v) (f.others (base + v) (λ x. omega arith))
+
+  pub at_others : (v : ℕ) → (v ≡ w → ⊥) → (v < row_start m k rows) ⊎ (row_start m k (rows + 1) ≤ v) → entry_in new (base + v) ≡ entry_in old (base + v)
+  at_others v d where-is = ⊎_elim (λ l. at_old v l d) (λ g. at_behind v (let e = next_row m k rows in let x = f.deep in omega arith)) where-is
 
   -- a place among the waiting ones: an old one, the own part, one of the parts behind, or an empty one
   place : (v : ℕ) → (P : Entry V → Type 0) → ((v < row_start m k rows) → (v ≡ w → ⊥) → P (entry_in old (base + v))) → P here →
@@ -74,6 +81,7 @@ module _ {M V : Type 0} (old mid new : List (Cell M V)) (n m base k rows w : ℕ
 
   pub queue_more : Queue old base n m k rows → Queue new base n m k (rows + 1)
   queue_more queue = record {
+    heads = λ v z h l. ap (λ (x : Entry V). x.depth) (at_old v (omega arith) (λ e. omega arith)) ∙ queue.heads v z (omega arith) l;
     free = λ v h l. let e = next_row m k rows in let d = f.deep in
         ap (λ (x : Entry V). x.depth) (at_behind v (omega arith)) ∙ queue.free v (omega arith) l;
     safe = λ v l. place v (Safe n m) (λ _ _. queue.safe v l) f.safe (λ u h. (f.parts u h).1) (λ _. queue.safe v l);

@@ -1,14 +1,20 @@
 -- The waiting subspaces in cells. For m stops and k plans that are wanted, k x m cells stand from cell `base` on: first
 -- the head of each of k rows, then the other entries of the rows, m - 1 in each. At the start all plans wait in the head
--- of row 0; every plan that is given opens one more row, for the parts of its subspace behind its depth.
-use Rattle.std.specs.Prelude.{◌≡◌, ℕ, ◌+◌, ◌-◌, ◌*◌, ◌<◌, ◌≤◌, List, None, Option, ◌==◌, ◌≢◌}
+-- of row 0; with every plan that is given one more row comes into use, for the parts of its subspace behind its depth.
+use Rattle.std.specs.Prelude.{◌≡◌, ℕ, ◌+◌, ◌-◌, ◌*◌, ◌<◌, ◌≤◌, ◌⊎◌, List, ◌∷◌, length, None, Option, ◌==◌, ◌≢◌}
+use Rattle.measures.specs.Meaning.{MeasureMeaning}
+use Rattle.measures.specs.Scales.{optional}
 use Rattle.sets.specs.Sets.{has_bit}
-use Rattle.trees.specs.Tasks.{Agree}
+use Rattle.sets.specs.Placements.{Same}
+use Rattle.jobs.specs.declared.stops.Stop.{Stop}
+use Rattle.trees.specs.Tasks.{Task}
 use Rattle.trees.specs.Subspaces.{Subspace}
+use Rattle.trees.specs.Rounds.{Partition, Chosen}
 use Rattle.cells.specs.declared.cell.Cell.{Cell}
 use Rattle.cells.specs.declared.cell.Entry.{Entry}
 use Rattle.cells.specs.Cells.{places_of, space_of}
-use Rattle.cells.specs.Tables.{entry_in}
+use Rattle.tables.specs.Tables.{entry_in, Kept}
+use Rattle.minima.specs.Tables.{Ready, Tables}
 
 -- the waiting subspaces, counted from the first head on
 abbrev pub waiting_in : {M V : Type 0} → List (Cell M V) → ℕ → ℕ → Subspace (Option V)
@@ -21,18 +27,43 @@ row_start m k row = k + row * (m - 1)
 -- the entry holds the plans that leave the places `from` at stop t for the first time
 pub record Part {V : Type 0} (from : List ℕ) (t : ℕ) (e : Entry V) : Type 0 where
   pub depth : e.depth ≡ t
-  pub same : Agree t (places_of from) (places_of e.places)
+  pub same : Same t (places_of from) (places_of e.places)
   pub excluded : (r : ℕ) → has_bit e.excluded.bits r ≡ (r == places_of from t)
 
 -- an entry with a plan has that plan's places, and its depth is a stop
 abbrev pub Safe : {V : Type 0} → ℕ → ℕ → Entry V → Type 0
 Safe n m e = (e.score ≢ None) → (e.depth < m) × ((t : ℕ) → t < m → places_of e.places t < n)
 
--- the first `rows` rows are in use, and every entry behind them is empty
+-- the first `rows` rows are in use, at the start only the head of row 0; every other entry is empty
 pub record Queue {M V : Type 0} (cells : List (Cell M V)) (base n m k rows : ℕ) : Type 0 where
+  pub heads : (v : ℕ) → 0 < v → rows ≤ v → v < k → (entry_in cells (base + v)).depth ≡ m
   pub free : (w : ℕ) → row_start m k rows ≤ w → w < k * m → (entry_in cells (base + w)).depth ≡ m
   pub safe : (w : ℕ) → w < k * m → Safe n m (entry_in cells (base + w))
 
 -- an entry for no subspace: its depth is no stop
 abbrev pub NoSpace : {V : Type 0} → ℕ → Entry V → Type 0
 NoSpace m e = (e.score ≡ None) × (e.depth ≡ m)
+
+-- head w is in use and has a plan, and row `rows` is there for the parts behind its depth; the entries stand behind the
+-- tables, and there are cells for all of them
+pub record Splittable {M V : Type 0} (cells : List (Cell M V)) (n : ℕ) (stops : List Stop) (base k rows w : ℕ) : Type 0 where
+  pub ready : Ready cells n stops
+  pub behind : n * n + length stops * n ≤ base
+  pub low : base ≤ 4864
+  pub most : k ≤ 256
+  pub room : base + k * length stops ≤ length cells
+  pub row : rows < k
+  pub head : w ≤ rows
+  pub deep : (entry_in cells (base + w)).depth < length stops
+  pub placed : (t : ℕ) → t < length stops → places_of (entry_in cells (base + w)).places t < n
+
+-- the plan of head w is given, which brings row `rows` into use: the tables and the other entries stay as they were, and
+-- where every plan not given waited, every other one waits on
+pub record SplitOff {M V : Type 0} (meaning : MeasureMeaning V) (stops : List Stop) (n base k rows w : ℕ) (old new : List (Cell M V)) : Type 0 where
+  pub kept : Kept base old new
+  pub others : (v : ℕ) → (v ≢ w) → (v < row_start (length stops) k rows) ⊎ (row_start (length stops) k (rows + 1) ≤ v) → entry_in new (base + v) ≡ entry_in old (base + v)
+  pub tables : (τ : Task (Option V)) (H : ℕ → ℕ → Option V) → Tables meaning old n stops τ H → Tables meaning new n stops τ H
+  pub queue : Queue old base n (length stops) k rows → Queue new base n (length stops) k (rows + 1)
+  pub stands : (τ : Task (Option V)) (H : ℕ → ℕ → Option V) (given : List (ℕ → ℕ)) → Tables meaning old n stops τ H → Queue old base n (length stops) k rows →
+      Partition (optional meaning) τ H given (k * length stops) (waiting_in old base) → Chosen (optional meaning) τ (k * length stops) (waiting_in old base) w →
+      Partition (optional meaning) τ H (places_of (entry_in old (base + w)).places ∷ given) (k * length stops) (waiting_in new base)

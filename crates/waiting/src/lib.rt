@@ -2,5 +2,4 @@
 
 pub mod opening;
 pub mod parts;
-pub mod picking;
 pub mod queue;

@@ -1,19 +1,26 @@
 ghost use Rattle.std.specs.Prelude.{◌≡◌, ℕ, ◌+◌, ◌*◌, ◌<◌, ◌≤◌, [], length, None, Option};
 ghost use Rattle.jobs.specs.Jobs.{stops_of};
-ghost use Rattle.trees.specs.Scales.{optional};
+ghost use Rattle.measures.specs.Scales.{optional};
 ghost use Rattle.trees.specs.Tasks.{Task};
 ghost use Rattle.trees.specs.Rounds.{Partition};
-ghost use Rattle.cells.specs.Tables.{entry_in, Kept};
+ghost use Rattle.tables.specs.Tables.{entry_in, Kept};
 ghost use Rattle.minima.specs.Tables.{Ready, Tables};
 ghost use Rattle.waiting.specs.Queues.{waiting_in, NoSpace, Queue};
 
-use crate::queue::room_for;
 use cells::cell::{Cell, Entry};
-use cells::tables::set_entry;
 use jobs::job::Job;
 use measures::Measure;
 use search::firsts::first_plan;
 use sets::PlaceSet;
+use tables::access::set_entry;
+
+// How many entries k rows have for m stops.
+fn room_for(k: usize, m: usize) -> usize
+    requires { (m ≤ 12) × (k ≤ 256) }
+    ensures { (result ≡ k * m) × (result ≤ 3072) }
+{
+    k * m
+}
 
 // Leaves no subspace waiting in the cells from one to another, for m stops.
 fn clear<M, V: Copy>(cells: &mut [Cell<M, V>], from: usize, to: usize, m: usize)
@@ -43,7 +50,7 @@ pub fn let_all_wait<M: Measure>(
     requires { Ready cells.old n (stops_of job.now) × (n * n + length (stops_of job.now) * n ≤ base) × (base ≤ 4864) × (1 ≤ k) × (k ≤ 256) × (base + k * length (stops_of job.now) ≤ length cells.old) }
     ensures kept { Kept base cells.old cells.new }
     ensures tables { (τ : Task (Option M.Value)) (H : ℕ → ℕ → Option M.Value) → Tables M.Measure.meaning cells.old n (stops_of job.now) τ H → Tables M.Measure.meaning cells.new n (stops_of job.now) τ H }
-    ensures queue { Queue cells.new base n (length (stops_of job.now)) k 1 }
+    ensures queue { Queue cells.new base n (length (stops_of job.now)) k 0 }
     ensures stands { (τ : Task (Option M.Value)) (H : ℕ → ℕ → Option M.Value) → Tables M.Measure.meaning cells.old n (stops_of job.now) τ H →
         Partition (optional M.Measure.meaning) τ H [] (k * length (stops_of job.now)) (waiting_in cells.new base) }
 {

@@ -1,20 +1,21 @@
-ghost use Rattle.std.specs.Prelude.{◌≡◌, ℕ, ◌+◌, ◌-◌, ◌*◌, ◌<◌, ◌≤◌, ◌&&◌, ◌||◌, length, None, Option, ◌==◌, nat_lt, slice_index_or};
+ghost use Rattle.std.specs.Prelude.{◌≡◌, ℕ, ◌+◌, ◌-◌, ◌*◌, ◌<◌, ◌≤◌, ◌&&◌, ◌||◌, length, Option, ◌==◌, nat_lt, slice_index_or};
 ghost use Rattle.sets.specs.Sets.{has_bit};
 ghost use Rattle.jobs.specs.Jobs.{stops_of};
-ghost use Rattle.trees.specs.Scales.{optional};
-ghost use Rattle.trees.specs.Tasks.{Task, Agree};
+ghost use Rattle.measures.specs.Scales.{optional};
+ghost use Rattle.trees.specs.Tasks.{Task};
 ghost use Rattle.trees.specs.Subspaces.{First};
 ghost use Rattle.cells.specs.Cells.{places_of, space_of};
-ghost use Rattle.cells.specs.Tables.{blank, entry_in, Kept};
+ghost use Rattle.tables.specs.Tables.{blank, entry_in, Kept};
 ghost use Rattle.minima.specs.Tables.{Ready, Tables};
 ghost use Rattle.waiting.specs.Queues.{Part, Safe};
+ghost use Rattle.sets.specs.Placements.{Same};
 
 use cells::cell::{Cell, Entry};
-use cells::tables::set_entry;
 use jobs::job::Job;
 use measures::Measure;
 use search::firsts::first_plan;
 use sets::PlaceSet;
+use tables::access::set_entry;
 
 // The part of a subspace with the plans that leave its first plan at stop t, t being behind its depth.
 fn part_at<M: Measure>(
@@ -80,7 +81,7 @@ pub fn part_here<M: Measure>(
     old: &Entry<M::Value>,
 ) -> Entry<M::Value>
     requires { Ready cells.now n (stops_of job.now) × (old.now.depth < length (stops_of job.now)) × ((s : ℕ) → s < length (stops_of job.now) → places_of old.now.places s < n) }
-    ensures kept { (result.depth ≡ old.now.depth) × Agree old.now.depth (places_of old.now.places) (places_of result.places) }
+    ensures kept { (result.depth ≡ old.now.depth) × Same old.now.depth (places_of old.now.places) (places_of result.places) }
     ensures excluded { (q : ℕ) → has_bit result.excluded.bits q ≡ (has_bit old.now.excluded.bits q || q == places_of old.now.places old.now.depth) }
     ensures safe { Safe n (length (stops_of job.now)) result }
     ensures first { (τ : Task (Option M.Value)) (H : ℕ → ℕ → Option M.Value) → Tables M.Measure.meaning cells.now n (stops_of job.now) τ H → First (optional M.Measure.meaning) τ H (space_of result) }

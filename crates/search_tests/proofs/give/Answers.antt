@@ -1,4 +1,4 @@
-use Rattle.std.proofs.Common.{◌≡◌, ℕ, ◌+◌, ◌-◌, ◌*◌, ◌<◌, List, length, get_or, sym, subst, ⊎_elim, arith}
+use Rattle.std.proofs.Common.{◌≡◌, ℕ, ◌<◌, List, length, get_or, sym, subst, ⊎_elim, arith}
 use Rattle.std.proofs.lemmas.Bool.{cases_eq}
 use Rattle.jobs.specs.Jobs.{stops_of}
 use Rattle.cells.specs.declared.cell.Entry.{Entry}
@@ -18,16 +18,16 @@ three xs a b c t l = ⊎_elim
     two : (t : ℕ) → t < 3 → (t ≡ 0 → ⊥) → (t ≡ 1 → ⊥) → t ≡ 2
     two t l d d' = omega (arith, d, d')
 
-pub split_off-requires : goal.split_off-requires
-split_off-requires g c = let V = g.row.M-Value.Denot in let m = c.requires.1 in let long = c.requires.0 in (
-  record { few = omega arith; room = omega arith },
-  omega arith,
-  omega arith,
-  omega arith,
-  omega arith,
-  subst (λ (k : ℕ). c.args.w < 28 + c.args.rows * (k - 1)) (sym c.requires.1) c.if-w-rows.false,
-  subst (λ (e : Entry V). e.depth < length (stops_of c.args.job.now)) c.entry_at-plan.ensures (let d = c.if-plan-ge3.false in omega arith),
-  subst (λ (e : Entry V). (t : ℕ) → t < length (stops_of c.args.job.now) → places_of e.places t < 3) c.entry_at-plan.ensures
-      (λ t l. three c.entry_at-plan.result.places c.if-plan-ge3-2.false c.if-plan-ge3-3.false c.if-plan-ge3-4.false t (omega arith)),
-  omega arith,
-)
+pub advance-requires : goal.advance-requires
+advance-requires g c = let V = g.row.M-Value.Denot in let m = c.requires.1 in let long = c.requires.0 in record {
+  ready = record { few = omega arith; room = omega arith };
+  behind = omega arith;
+  low = omega arith;
+  most = omega arith;
+  room = omega arith;
+  row = omega arith;
+  head = c.if-w-rows.false;
+  deep = subst (λ (e : Entry V). e.depth < length (stops_of c.args.job.now)) c.entry_at-plan.ensures (let d = c.if-plan-ge3.false in omega arith);
+  placed = subst (λ (e : Entry V). (t : ℕ) → t < length (stops_of c.args.job.now) → places_of e.places t < 3) c.entry_at-plan.ensures
+      (λ t l. three c.entry_at-plan.result.places c.if-plan-ge3-2.false c.if-plan-ge3-3.false c.if-plan-ge3-4.false t (omega arith));
+}

@@ -1,4 +1,4 @@
-ghost use Rattle.std.specs.Prelude.{◌≡◌, ℕ, ◌+◌, ◌-◌, ◌<◌, ◌≤◌, true, false, [], ◌∷◌, length, take, drop, IfSome, IfOk, MatchOption, slice_range};
+ghost use Rattle.std.specs.Prelude.{◌≡◌, ◌+◌, ◌-◌, ◌<◌, ◌≤◌, true, false, [], ◌∷◌, length, take, drop, IfSome, IfOk, MatchOption};
 ghost use Rattle.texts.specs.Cut.{before, rows, fields, fields_from};
 ghost use Rattle.faults.specs.declared.LineFault.TheVariants.{Field};
 ghost use Rattle.faults.specs.Faults.{spot as spotAt, line_fault, field_fault};
@@ -37,7 +37,7 @@ fn line_end(text: &[u8], start: usize) -> usize
 // Where the field that starts at `start` ends, in the line that ends at `end`.
 fn field_end(text: &[u8], start: usize, end: usize) -> usize
     requires { (start ≤ end) × (end ≤ length text.now) }
-    ensures field { fields_from (take end text.now) start ≡ slice_range text.now start result ∷ fields_from (take end text.now) (result + 1) }
+    ensures field { fields_from (take end text.now) start ≡ take (result - start) (drop start text.now) ∷ fields_from (take end text.now) (result + 1) }
     ensures high { (start ≤ result) × (result ≤ end) }
 {
     find(&text[0..end], start, b'\t')

@@ -1,10 +1,9 @@
 use Rattle.std.proofs.Common.{◌≡◌, cond, length, Some, Option, sym, ap, ◌∙◌, ap₂, arith}
 use Rattle.measures.specs.Optional.{both}
 use Rattle.jobs.specs.Jobs.{stops_of}
-use Rattle.trees.specs.Scales.{optional}
-use Rattle.trees.specs.Tasks.{total}
+use Rattle.measures.specs.Scales.{optional, total}
 use Rattle.trees.proofs.Bounds.{total_none, total_more}
-use Rattle.cells.specs.Tables.{hang_in}
+use Rattle.tables.specs.Tables.{hang_in}
 use Rattle.minima.specs.Tables.{child_in}
 use Rattle.minima.proofs.subtrees.best_value.Goals as goal
 

@@ -1,8 +1,7 @@
 use Rattle.std.proofs.Common.{◌≡◌, cond, Some}
 use Rattle.jobs.specs.Jobs.{stops_of}
-use Rattle.trees.specs.Scales.{optional}
-use Rattle.trees.specs.Tasks.{total}
-use Rattle.cells.specs.Tables.{hang_in}
+use Rattle.measures.specs.Scales.{optional, total}
+use Rattle.tables.specs.Tables.{hang_in}
 use Rattle.minima.specs.Tables.{child_in}
 use Rattle.minima.proofs.subtrees.best_value.Given as goal
 

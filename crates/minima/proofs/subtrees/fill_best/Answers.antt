@@ -1,7 +1,7 @@
 use Rattle.std.proofs.Common.{◌≡◌, ℕ, ◌<◌, refl, ◌∙◌, ap₂, arith}
 use Rattle.measures.specs.Optional.{both}
 use Rattle.jobs.specs.Jobs.{stops_of}
-use Rattle.cells.specs.Tables.{own_in, best_in}
+use Rattle.tables.specs.Tables.{own_in, best_in}
 use Rattle.minima.specs.Tables.{hanging_in}
 use Rattle.minima.proofs.Rows.{stays_none, stays_both, best_else, best_there, own_stays, hang_stays, hanging_stays, more}
 use Rattle.minima.proofs.subtrees.fill_best.Goals as goal

@@ -1,7 +1,7 @@
 use Rattle.std.proofs.Common.{◌≡◌, ℕ, ◌<◌, get_or}
 use Rattle.measures.specs.Optional.{both}
 use Rattle.jobs.specs.Jobs.{stops_of}
-use Rattle.cells.specs.Tables.{blank, own_in, best_in, Stays}
+use Rattle.tables.specs.Tables.{blank, own_in, best_in, Stays}
 use Rattle.minima.specs.Tables.{hanging_in}
 use Rattle.minima.proofs.subtrees.fill_best.Given as goal
 

@@ -1,11 +1,11 @@
 use Rattle.std.proofs.Common.{◌≡◌, ℕ, ◌<◌, sym, refl, ◌∙◌, ap₂, arith}
 use Rattle.measures.specs.Optional.{both}
 use Rattle.jobs.specs.Jobs.{stops_of}
-use Rattle.trees.specs.Scales.{optional}
+use Rattle.measures.specs.Scales.{optional}
 use Rattle.trees.specs.Minima.{IsLeast}
 use Rattle.trees.proofs.Lift.{lifted}
 use Rattle.trees.proofs.Bounds.{least_same}
-use Rattle.cells.specs.Tables.{best_in, hang_in}
+use Rattle.tables.specs.Tables.{best_in, hang_in}
 use Rattle.minima.specs.Tables.{link_in}
 use Rattle.minima.proofs.Rows.{stays_none, stays_both, hang_else, hang_there, link_stays, best_stays, more}
 use Rattle.minima.proofs.subtrees.fill_hang.Goals as goal

@@ -1,9 +1,9 @@
 use Rattle.std.proofs.Common.{◌≡◌, ℕ, ◌<◌, get_or}
 use Rattle.measures.specs.Optional.{both}
 use Rattle.jobs.specs.Jobs.{stops_of}
-use Rattle.trees.specs.Scales.{optional}
+use Rattle.measures.specs.Scales.{optional}
 use Rattle.trees.specs.Minima.{IsLeast}
-use Rattle.cells.specs.Tables.{blank, best_in, hang_in, Stays}
+use Rattle.tables.specs.Tables.{blank, best_in, hang_in, Stays}
 use Rattle.minima.specs.Tables.{link_in}
 use Rattle.minima.proofs.subtrees.fill_hang.Given as goal
 

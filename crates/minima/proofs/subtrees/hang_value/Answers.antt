@@ -1,9 +1,9 @@
 use Rattle.std.proofs.Common.{cond, Option, sym, refl, ap, ◌∙◌, subst, ap₂}
 use Rattle.measures.specs.Optional.{both}
-use Rattle.trees.specs.Scales.{optional, at_most}
+use Rattle.measures.specs.Scales.{optional, at_most}
 use Rattle.trees.specs.Minima.{IsLeast}
 use Rattle.jobs.specs.Jobs.{stops_of}
-use Rattle.cells.specs.Tables.{best_in}
+use Rattle.tables.specs.Tables.{best_in}
 use Rattle.minima.specs.Tables.{link_in}
 use Rattle.trees.proofs.Lift.{lifted}
 use Rattle.trees.proofs.Bounds.{least_none, least_more}

@@ -1,9 +1,9 @@
 use Rattle.std.proofs.Common.{◌≡◌, ℕ}
 use Rattle.measures.specs.Optional.{both}
 use Rattle.jobs.specs.Jobs.{stops_of}
-use Rattle.trees.specs.Scales.{optional}
+use Rattle.measures.specs.Scales.{optional}
 use Rattle.trees.specs.Minima.{IsLeast}
-use Rattle.cells.specs.Tables.{best_in}
+use Rattle.tables.specs.Tables.{best_in}
 use Rattle.minima.specs.Tables.{link_in}
 use Rattle.minima.proofs.subtrees.hang_value.Given as goal
 

@@ -1,5 +1,5 @@
 use Rattle.std.proofs.Common.{◌≡◌, ℕ, refl, subst, arith}
-use Rattle.cells.specs.Tables.{ride_in}
+use Rattle.tables.specs.Tables.{ride_in}
 use Rattle.rides.proofs.CellWrites.{kept_then}
 use Rattle.rides.specs.Rounds.{Mid}
 use Rattle.rides.proofs.Rounding.{round_start, round_end}

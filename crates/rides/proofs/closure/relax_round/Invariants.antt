@@ -1,5 +1,5 @@
 use Rattle.streets.specs.Meaning.{StreetMeaning}
-use Rattle.cells.specs.Tables.{ride_in}
+use Rattle.tables.specs.Tables.{ride_in}
 use Rattle.rides.specs.Rounds.{Mid, Full, RidesOnly}
 use Rattle.rides.proofs.closure.relax_round.Given as goal
 

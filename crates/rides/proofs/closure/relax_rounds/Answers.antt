@@ -1,5 +1,5 @@
 use Rattle.std.proofs.Common.{◌≡◌, ℕ, subst, arith}
-use Rattle.cells.specs.Tables.{ride_in}
+use Rattle.tables.specs.Tables.{ride_in}
 use Rattle.rides.proofs.CellWrites.{kept_then}
 use Rattle.rides.specs.Rounds.{Full}
 use Rattle.rides.proofs.closure.relax_rounds.Goals as goal

@@ -1,6 +1,6 @@
 use Rattle.std.proofs.Common.{◌≡◌, ℕ, Some, Option, sym, refl, ◌∙◌, subst, arith}
 use Rattle.plans.specs.Between.{Reaches}
-use Rattle.cells.specs.Tables.{ride_in}
+use Rattle.tables.specs.Tables.{ride_in}
 use Rattle.rides.specs.Rounds.{Mid}
 use Rattle.rides.proofs.CellWrites.{kept_then}
 use Rattle.rides.proofs.Rounding.{mid_step, row_end, row_skip}

@@ -1,7 +1,7 @@
 use Rattle.std.proofs.Common.{◌<◌, length, ap, arith, rules}
 use borrow.Author.Rules.{scaled_Fits}
 use Rattle.std.proofs.lemmas.List.{get_or_default, drop-set-lt}
-use Rattle.cells.specs.Tables.{blank}
+use Rattle.tables.specs.Tables.{blank}
 use Rattle.cells.specs.declared.cell.Cell.{Cell}
 use Rattle.rides.proofs.CellWrites.{kind_written}
 use Rattle.rides.proofs.pairs.set_kind.Goals as goal

@@ -1,7 +1,7 @@
 use Rattle.std.proofs.Common.{◌<◌, length, refl, ◌∙◌, arith, rules}
 use borrow.Author.Rules.{scaled_Fits}
 use Rattle.std.proofs.lemmas.List.{drop-set-lt}
-use Rattle.cells.specs.Tables.{blank}
+use Rattle.tables.specs.Tables.{blank}
 use Rattle.rides.proofs.CellWrites.{leg_first, ride_second, no_kind}
 use Rattle.rides.proofs.pairs.set_pair.Goals as goal
 

@@ -1,4 +1,4 @@
-use Rattle.trees.specs.Scales.{optional}
+use Rattle.measures.specs.Scales.{optional}
 use Rattle.trees.proofs.Lift.{lifted}
 use Rattle.trees.proofs.Together.{firsts}
 use Rattle.trees.proofs.laws.first_comes_first.Goals as goal

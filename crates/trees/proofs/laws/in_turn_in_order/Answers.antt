@@ -1,4 +1,4 @@
-use Rattle.trees.specs.Scales.{optional}
+use Rattle.measures.specs.Scales.{optional}
 use Rattle.trees.proofs.Lift.{lifted}
 use Rattle.trees.proofs.Together.{orders}
 use Rattle.trees.proofs.laws.in_turn_in_order.Goals as goal

@@ -1,4 +1,4 @@
-use Rattle.trees.specs.Scales.{optional}
+use Rattle.measures.specs.Scales.{optional}
 use Rattle.trees.proofs.Lift.{lifted}
 use Rattle.trees.proofs.Together.{nones}
 use Rattle.trees.proofs.laws.none_waiting.Goals as goal

@@ -1,7 +1,7 @@
 use Rattle.std.proofs.Common.{ℕ, sym, refl, ◌∙◌, subst, ⊎_elim, arith}
 use Rattle.std.proofs.lemmas.Bool.{cases_eq}
 use Rattle.cells.specs.declared.cell.Entry.{Entry}
-use Rattle.cells.specs.Tables.{entry_in}
+use Rattle.tables.specs.Tables.{entry_in}
 use Rattle.waiting.specs.Queues.{NoSpace}
 use Rattle.waiting.proofs.Keeping.{same_entry}
 use Rattle.waiting.proofs.opening.clear.Goals as goal

@@ -1,5 +1,5 @@
 use Rattle.std.proofs.Common.{ℕ, ◌<◌, ◌≤◌}
-use Rattle.cells.specs.Tables.{entry_in, Kept}
+use Rattle.tables.specs.Tables.{entry_in, Kept}
 use Rattle.waiting.specs.Queues.{NoSpace}
 use Rattle.waiting.proofs.opening.clear.Given as goal
 

@@ -3,8 +3,8 @@ use Rattle.std.proofs.lemmas.Bool.{cases_lt}
 use Rattle.jobs.specs.Jobs.{stops_of}
 use Rattle.sets.specs.Sets.{has_bit}
 use Rattle.sets.specs.declared.PlaceSet.{PlaceSet}
-use Rattle.cells.specs.Tables.{entry_in}
-use Rattle.minima.proofs.Ties.{some_stop}
+use Rattle.tables.specs.Tables.{entry_in}
+use Rattle.jobs.proofs.Ties.{some_stop}
 use Rattle.waiting.specs.Queues.{NoSpace, Safe}
 use Rattle.waiting.proofs.Keeping.{tables_kept}
 use Rattle.waiting.proofs.Starting.{some_room, queue_start, partition_start}

@@ -3,7 +3,7 @@ use Rattle.jobs.specs.Jobs.{stops_of}
 use Rattle.sets.specs.Sets.{has_bit}
 use Rattle.sets.specs.declared.PlaceSet.{PlaceSet}
 use Rattle.std.proofs.lemmas.Bool.{lt-ltb}
-use Rattle.minima.proofs.Ties.{few_stops}
+use Rattle.jobs.proofs.Ties.{few_stops}
 use Rattle.cells.specs.Cells.{places_of}
 use Rattle.waiting.proofs.Keeping.{one_bit}
 use Rattle.waiting.proofs.parts.part_here.Goals as goal

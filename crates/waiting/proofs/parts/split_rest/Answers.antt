@@ -1,10 +1,10 @@
 use Rattle.std.proofs.Common.{◌≡◌, ℕ, ◌+◌, ◌<◌, length, sym, ◌∙◌, subst, arith}
 use Rattle.jobs.specs.Jobs.{stops_of}
-use Rattle.trees.specs.Scales.{optional}
+use Rattle.measures.specs.Scales.{optional}
 use Rattle.trees.specs.Subspaces.{First}
 use Rattle.cells.specs.declared.cell.Entry.{Entry}
 use Rattle.cells.specs.Cells.{space_of}
-use Rattle.cells.specs.Tables.{entry_in}
+use Rattle.tables.specs.Tables.{entry_in}
 use Rattle.waiting.specs.Queues.{Part, Safe}
 use Rattle.minima.proofs.Rows.{more}
 use Rattle.waiting.proofs.Keeping.{tables_kept, same_entry}

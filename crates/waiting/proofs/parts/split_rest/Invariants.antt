@@ -1,10 +1,10 @@
 use Rattle.std.proofs.Common.{◌≡◌, ℕ, ◌+◌, ◌<◌, ◌≤◌, length, get_or, Option}
 use Rattle.jobs.specs.Jobs.{stops_of}
-use Rattle.trees.specs.Scales.{optional}
+use Rattle.measures.specs.Scales.{optional}
 use Rattle.trees.specs.Tasks.{Task}
 use Rattle.trees.specs.Subspaces.{First}
 use Rattle.cells.specs.Cells.{space_of}
-use Rattle.cells.specs.Tables.{blank, entry_in, Kept}
+use Rattle.tables.specs.Tables.{blank, entry_in, Kept}
 use Rattle.minima.specs.Tables.{Tables}
 use Rattle.waiting.specs.Queues.{Part, Safe}
 use Rattle.waiting.proofs.parts.split_rest.Given as goal

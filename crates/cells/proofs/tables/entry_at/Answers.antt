@@ -1,9 +1,0 @@
-use Rattle.std.proofs.Common.{ap}
-use Rattle.std.proofs.lemmas.List.{get_or_default}
-use Rattle.cells.specs.declared.cell.Cell.{Cell}
-use Rattle.cells.specs.Tables.{entry_in, blank}
-use Rattle.cells.proofs.tables.entry_at.Goals as goal
-
-pub returns : goal.returns
-unfolding entry_in
-returns g c = ap (λ (x : Cell g.row.M.Denot g.row.V.Denot). x.entry) (get_or_default c.args.cells.now c.args.at _ blank c.requires)
