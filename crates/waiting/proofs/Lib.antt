@@ -1,3 +1,4 @@
 pub mod Keeping
+pub mod Leasts
 pub mod Stepping
 pub mod Starting

@@ -18,7 +18,7 @@ use Rattle.cells.specs.declared.cell.Entry.{Entry}
 use Rattle.cells.specs.Cells.{space_of}
 use Rattle.tables.specs.Tables.{blank, entry_in}
 use Rattle.minima.specs.Tables.{Tables}
-use Rattle.waiting.specs.Queues.{waiting_in, NoSpace, Safe, Queue}
+use Rattle.waiting.specs.Queues.{waiting_in, NoSpace, Safe, Queue, FreeHeads}
 use Rattle.waiting.proofs.Keeping.{same_entry}
 
 pub some_room : (k m : ℕ) → 1 ≤ k → 1 ≤ m → 1 ≤ k * m
@@ -40,10 +40,12 @@ module _ {M V : Type 0} (mid new : List (Cell M V)) (n m base k : ℕ) (first : 
 
   pub queue_start : Safe n m first → Queue new base n m k 0
   queue_start safe = record {
-    heads = λ v z h l. (at_rest v z (let e = mul-le k 1 k m (omega arith) some in omega arith)).1;
     free = λ w h l. (at_rest w (omega arith) l).1;
     safe = each (Safe n m) safe (λ e no some. absurd (some no.0));
   }
+
+  pub heads_start : FreeHeads new base m k 0
+  heads_start v z h l = (at_rest v z (let e = mul-le k 1 k m (omega arith) some in omega arith)).1
 
   pub partition_start : (meaning : MeasureMeaning V) (laws : Laws meaning.nought meaning.joined meaning.before) (stops : Job) (τ : Task (Option V)) (H : ℕ → ℕ → Option V) → τ.m ≡ m → Tables meaning mid n (stops_of stops) τ H →
       ((r : ℕ) → has_bit first.excluded.bits r ≡ false) → First (optional meaning) τ H (space_of first) → Partition (optional meaning) τ H [] (k * m) (waiting_in new base)

@@ -18,7 +18,7 @@ use Rattle.cells.specs.declared.cell.Entry.{Entry}
 use Rattle.cells.specs.Cells.{places_of, space_of}
 use Rattle.tables.specs.Tables.{blank, entry_in, Kept}
 use Rattle.minima.specs.Tables.{Tables}
-use Rattle.waiting.specs.Queues.{waiting_in, row_start, Part, Safe, Queue}
+use Rattle.waiting.specs.Queues.{waiting_in, row_start, Part, Safe, Queue, FreeHeads}
 use Rattle.waiting.proofs.Keeping.{same_entry}
 use Rattle.sets.specs.Placements.{Same}
 
@@ -29,8 +29,8 @@ row_ends m k row s l = subst (λ (x : ℕ). row_start x k row + (x - 1) ≤ k * 
     ends : (d k row : ℕ) → row < k → row_start (d + 1) k row + (d + 1 - 1) ≤ k * (d + 1)
     ends d k row l = subst (λ (x : ℕ). k + row * x + x ≤ k * (d + 1)) (let e : d ≡ d + 1 - 1 = omega arith in e) (let a = mul-le (row + 1) d k d (omega arith) (omega arith) in omega arith)
 
--- a head in use stands in the cells
-pub within : (base w m k rows len : ℕ) → 1 ≤ m → m ≤ 12 → k ≤ 256 → rows < k → base + k * m ≤ len → w ≤ rows → base ≤ 4864 → (base + w < len) × (base + w ≤ 7936)
+-- an entry of a row in use stands in the cells
+pub within : (base w m k rows len : ℕ) → 1 ≤ m → m ≤ 12 → k ≤ 256 → rows < k → base + k * m ≤ len → w < row_start m k rows → base ≤ 4864 → (base + w < len) × (base + w ≤ 7936)
 within base w m k rows len some few small row room l low = let e = row_ends m k rows some row in let b = mul-le k m 256 12 small few in (omega arith, omega arith)
 
 pub next_row : (m k row : ℕ) → row_start m k (row + 1) ≡ row_start m k row + (m - 1)
@@ -49,10 +49,7 @@ pub record Facts {M V : Type 0} (old mid new : List (Cell M V)) (n m base at w :
   pub safe : Safe n m here
   pub parts : (u : ℕ) → u < m - (e.depth + 1) → Part e.places (e.depth + 1 + u) (entry_in new (at + u)) × Safe n m (entry_in new (at + u))
 
-module _ {M V : Type 0} (old mid new : List (Cell M V)) (n m base k rows w : ℕ) (here : Entry V) (f : Facts old mid new n m base (base + row_start m k rows) w (entry_in old (base + w)) here) (row : rows < k) (head : w ≤ rows) where
-  wl : w < row_start m k rows
-  wl = omega arith
-
+module _ {M V : Type 0} (old mid new : List (Cell M V)) (n m base k rows w : ℕ) (here : Entry V) (f : Facts old mid new n m base (base + row_start m k rows) w (entry_in old (base + w)) here) (row : rows < k) (wl : w < row_start m k rows) where
   pub at_w : entry_in new (base + w) ≡ here
   at_w = same_entry mid new (base + w) (f.before (base + w) (omega arith)) ∙ f.there
 
@@ -81,11 +78,14 @@ module _ {M V : Type 0} (old mid new : List (Cell M V)) (n m base k rows w : ℕ
 
   pub queue_more : Queue old base n m k rows → Queue new base n m k (rows + 1)
   queue_more queue = record {
-    heads = λ v z h l. ap (λ (x : Entry V). x.depth) (at_old v (omega arith) (λ e. omega arith)) ∙ queue.heads v z (omega arith) l;
     free = λ v h l. let e = next_row m k rows in let d = f.deep in
         ap (λ (x : Entry V). x.depth) (at_behind v (omega arith)) ∙ queue.free v (omega arith) l;
     safe = λ v l. place v (Safe n m) (λ _ _. queue.safe v l) f.safe (λ u h. (f.parts u h).1) (λ _. queue.safe v l);
   }
+
+  pub heads_more : FreeHeads old base m k rows → FreeHeads new base m k (rows + 1)
+  heads_more heads v z h l = ap (λ (x : Entry V). x.depth) (at_old v (omega arith) (λ e. let d = heads v z (omega arith) l in let s = ap (λ i. (entry_in old (base + i)).depth) e in let g = f.deep in omega arith))
+      ∙ heads v z (omega arith) l
 
   module _ (meaning : MeasureMeaning V) (laws : Laws meaning.nought meaning.joined meaning.before) (j : Job) (τ : Task (Option V)) (H : ℕ → ℕ → Option V)
       (size : τ.m ≡ m) (some : 1 ≤ m) (tables : Tables meaning old n (stops_of j) τ H) (queue : Queue old base n m k rows)

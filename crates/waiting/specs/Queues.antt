@@ -34,17 +34,20 @@ pub record Part {V : Type 0} (from : List ℕ) (t : ℕ) (e : Entry V) : Type 0 
 abbrev pub Safe : {V : Type 0} → ℕ → ℕ → Entry V → Type 0
 Safe n m e = (e.score ≢ None) → (e.depth < m) × ((t : ℕ) → t < m → places_of e.places t < n)
 
--- the first `rows` rows are in use, at the start only the head of row 0; every other entry is empty
+-- the first `rows` rows are in use, and every entry behind them is empty
 pub record Queue {M V : Type 0} (cells : List (Cell M V)) (base n m k rows : ℕ) : Type 0 where
-  pub heads : (v : ℕ) → 0 < v → rows ≤ v → v < k → (entry_in cells (base + v)).depth ≡ m
   pub free : (w : ℕ) → row_start m k rows ≤ w → w < k * m → (entry_in cells (base + w)).depth ≡ m
   pub safe : (w : ℕ) → w < k * m → Safe n m (entry_in cells (base + w))
+
+-- the heads of the rows that are not in use are empty; at the start that of row 0 is not, since all plans wait in it
+abbrev pub FreeHeads : {M V : Type 0} → List (Cell M V) → ℕ → ℕ → ℕ → ℕ → Type 0
+FreeHeads cells base m k rows = (v : ℕ) → 0 < v → rows ≤ v → v < k → (entry_in cells (base + v)).depth ≡ m
 
 -- an entry for no subspace: its depth is no stop
 abbrev pub NoSpace : {V : Type 0} → ℕ → Entry V → Type 0
 NoSpace m e = (e.score ≡ None) × (e.depth ≡ m)
 
--- head w is in use and has a plan, and row `rows` is there for the parts behind its depth; the entries stand behind the
+-- entry w is in use and has a plan, and row `rows` is there for the parts behind its depth; the entries stand behind the
 -- tables, and there are cells for all of them
 pub record Splittable {M V : Type 0} (cells : List (Cell M V)) (n : ℕ) (stops : List Stop) (base k rows w : ℕ) : Type 0 where
   pub ready : Ready cells n stops
@@ -53,17 +56,18 @@ pub record Splittable {M V : Type 0} (cells : List (Cell M V)) (n : ℕ) (stops 
   pub most : k ≤ 256
   pub room : base + k * length stops ≤ length cells
   pub row : rows < k
-  pub head : w ≤ rows
+  pub used : w < row_start (length stops) k rows
   pub deep : (entry_in cells (base + w)).depth < length stops
   pub placed : (t : ℕ) → t < length stops → places_of (entry_in cells (base + w)).places t < n
 
--- the plan of head w is given, which brings row `rows` into use: the tables and the other entries stay as they were, and
+-- the plan of entry w is given, which brings row `rows` into use: the tables and the other entries stay as they were, and
 -- where every plan not given waited, every other one waits on
 pub record SplitOff {M V : Type 0} (meaning : MeasureMeaning V) (stops : List Stop) (n base k rows w : ℕ) (old new : List (Cell M V)) : Type 0 where
   pub kept : Kept base old new
   pub others : (v : ℕ) → (v ≢ w) → (v < row_start (length stops) k rows) ⊎ (row_start (length stops) k (rows + 1) ≤ v) → entry_in new (base + v) ≡ entry_in old (base + v)
   pub tables : (τ : Task (Option V)) (H : ℕ → ℕ → Option V) → Tables meaning old n stops τ H → Tables meaning new n stops τ H
   pub queue : Queue old base n (length stops) k rows → Queue new base n (length stops) k (rows + 1)
+  pub heads : FreeHeads old base (length stops) k rows → FreeHeads new base (length stops) k (rows + 1)
   pub stands : (τ : Task (Option V)) (H : ℕ → ℕ → Option V) (given : List (ℕ → ℕ)) → Tables meaning old n stops τ H → Queue old base n (length stops) k rows →
       Partition (optional meaning) τ H given (k * length stops) (waiting_in old base) → Chosen (optional meaning) τ (k * length stops) (waiting_in old base) w →
       Partition (optional meaning) τ H (places_of (entry_in old (base + w)).places ∷ given) (k * length stops) (waiting_in new base)

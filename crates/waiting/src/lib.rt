@@ -2,4 +2,5 @@
 
 pub mod opening;
 pub mod parts;
+pub mod picking;
 pub mod queue;

@@ -5,22 +5,15 @@ ghost use Rattle.trees.specs.Tasks.{Task};
 ghost use Rattle.trees.specs.Rounds.{Partition};
 ghost use Rattle.tables.specs.Tables.{entry_in, Kept};
 ghost use Rattle.minima.specs.Tables.{Ready, Tables};
-ghost use Rattle.waiting.specs.Queues.{waiting_in, NoSpace, Queue};
+ghost use Rattle.waiting.specs.Queues.{waiting_in, NoSpace, Queue, FreeHeads};
 
+use crate::queue::room_for;
 use cells::cell::{Cell, Entry};
 use jobs::job::Job;
 use measures::Measure;
 use search::firsts::first_plan;
 use sets::PlaceSet;
 use tables::access::set_entry;
-
-// How many entries k rows have for m stops.
-fn room_for(k: usize, m: usize) -> usize
-    requires { (m ≤ 12) × (k ≤ 256) }
-    ensures { (result ≡ k * m) × (result ≤ 3072) }
-{
-    k * m
-}
 
 // Leaves no subspace waiting in the cells from one to another, for m stops.
 fn clear<M, V: Copy>(cells: &mut [Cell<M, V>], from: usize, to: usize, m: usize)
@@ -51,6 +44,7 @@ pub fn let_all_wait<M: Measure>(
     ensures kept { Kept base cells.old cells.new }
     ensures tables { (τ : Task (Option M.Value)) (H : ℕ → ℕ → Option M.Value) → Tables M.Measure.meaning cells.old n (stops_of job.now) τ H → Tables M.Measure.meaning cells.new n (stops_of job.now) τ H }
     ensures queue { Queue cells.new base n (length (stops_of job.now)) k 0 }
+    ensures heads { FreeHeads cells.new base (length (stops_of job.now)) k 0 }
     ensures stands { (τ : Task (Option M.Value)) (H : ℕ → ℕ → Option M.Value) → Tables M.Measure.meaning cells.old n (stops_of job.now) τ H →
         Partition (optional M.Measure.meaning) τ H [] (k * length (stops_of job.now)) (waiting_in cells.new base) }
 {

@@ -24,7 +24,15 @@ pub fn row_start(m: usize, k: usize, row: usize) -> usize
     k + entries_before(m, k, row)
 }
 
-// The plan of head w is given, for m stops: the part of its subspace at its own depth takes its place, and the others go
+// How many entries k rows have for m stops.
+pub fn room_for(k: usize, m: usize) -> usize
+    requires { (m ≤ 12) × (k ≤ 256) }
+    ensures { (result ≡ k * m) × (result ≤ 3072) }
+{
+    k * m
+}
+
+// The plan of entry w is given, for m stops: the part of its subspace at its own depth takes its place, and the others go
 // into row `rows`.
 fn split_head<M: Measure>(
     cells: &mut [Cell<M, M::Value>],
@@ -46,7 +54,7 @@ fn split_head<M: Measure>(
     split_rest::<M>(cells, n, job, start, &old.places, old.depth);
 }
 
-// The plan of head w is given: what is left of its subspace is split, and waits on.
+// The plan of entry w is given: what is left of its subspace is split, and waits on.
 pub fn split_off<M: Measure>(
     cells: &mut [Cell<M, M::Value>],
     n: usize,

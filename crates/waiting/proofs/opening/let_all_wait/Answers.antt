@@ -7,7 +7,7 @@ use Rattle.tables.specs.Tables.{entry_in}
 use Rattle.jobs.proofs.Ties.{some_stop}
 use Rattle.waiting.specs.Queues.{NoSpace, Safe}
 use Rattle.waiting.proofs.Keeping.{tables_kept}
-use Rattle.waiting.proofs.Starting.{some_room, queue_start, partition_start}
+use Rattle.waiting.proofs.Starting.{some_room, queue_start, heads_start, partition_start}
 use Rattle.waiting.proofs.opening.let_all_wait.Goals as goal
 
 pub set_entry-requires : goal.set_entry-requires
@@ -26,6 +26,7 @@ returns g c = let m = g.M.Measure.meaning in
       kept = λ i l. c.set_entry.ensures.others i (λ x. omega arith) ∙ c.clear.ensures.kept i l;
       tables = tables_kept c.args.cells.now c.set_entry.new.cells c.args.n c.args.base (stops_of c.args.job.now) c.requires.1 (λ i l. c.set_entry.ensures.others i (λ x. omega arith) ∙ c.clear.ensures.kept i l) m;
       queue = queue_start c.clear.new.cells c.set_entry.new.cells c.args.n (length (stops_of c.args.job.now)) c.args.base c.args.k c.first_plan-first.result c.set_entry.ensures.there c.set_entry.ensures.others empty c.requires.3 (some_stop c.args.job.now) c.first_plan-first.ensures.kept.0 safe;
+      heads = heads_start c.clear.new.cells c.set_entry.new.cells c.args.n (length (stops_of c.args.job.now)) c.args.base c.args.k c.first_plan-first.result c.set_entry.ensures.there c.set_entry.ensures.others empty c.requires.3 (some_stop c.args.job.now) c.first_plan-first.ensures.kept.0;
       stands = λ τ H tables. let after = tables_kept c.args.cells.now c.clear.new.cells c.args.n c.args.base (stops_of c.args.job.now) c.requires.1 c.clear.ensures.kept m τ H tables in
           partition_start c.clear.new.cells c.set_entry.new.cells c.args.n (length (stops_of c.args.job.now)) c.args.base c.args.k c.first_plan-first.result c.set_entry.ensures.there c.set_entry.ensures.others empty c.requires.3 (some_stop c.args.job.now) c.first_plan-first.ensures.kept.0
           m g.met.M.Measure.lawful.laws c.args.job.now τ H tables.holds.size after

@@ -8,20 +8,20 @@ use Rattle.tables.specs.Tables.{entry_in}
 use Rattle.jobs.proofs.Ties.{few_stops, some_stop}
 use Rattle.waiting.specs.Queues.{row_start}
 use Rattle.waiting.proofs.Keeping.{tables_kept}
-use Rattle.waiting.proofs.Stepping.{within, Facts, row_ends, at_others, queue_more, advanced}
+use Rattle.waiting.proofs.Stepping.{within, Facts, row_ends, at_others, queue_more, heads_more, advanced}
 use Rattle.waiting.proofs.queue.split_head.Goals as goal
 
 pub overflow_add-base : goal.overflow_add-base
-overflow_add-base g c = let h = (within c.args.base c.args.w (length (stops_of c.args.job.now)) c.args.k c.args.rows (length c.args.cells.now) (some_stop c.args.job.now) (few_stops c.args.job.now) c.requires.1.most c.requires.1.row c.requires.1.room c.requires.1.head c.requires.1.low).1 in search rules
+overflow_add-base g c = let h = (within c.args.base c.args.w (length (stops_of c.args.job.now)) c.args.k c.args.rows (length c.args.cells.now) (some_stop c.args.job.now) (few_stops c.args.job.now) c.requires.1.most c.requires.1.row c.requires.1.room c.requires.1.used c.requires.1.low).1 in search rules
 
 pub entry_at-old-requires : goal.entry_at-old-requires
-entry_at-old-requires g c = (within c.args.base c.args.w (length (stops_of c.args.job.now)) c.args.k c.args.rows (length c.args.cells.now) (some_stop c.args.job.now) (few_stops c.args.job.now) c.requires.1.most c.requires.1.row c.requires.1.room c.requires.1.head c.requires.1.low).0
+entry_at-old-requires g c = (within c.args.base c.args.w (length (stops_of c.args.job.now)) c.args.k c.args.rows (length c.args.cells.now) (some_stop c.args.job.now) (few_stops c.args.job.now) c.requires.1.most c.requires.1.row c.requires.1.room c.requires.1.used c.requires.1.low).0
 
 pub overflow_add-base-2 : goal.overflow_add-base-2
-overflow_add-base-2 g c = let h = (within c.args.base c.args.w (length (stops_of c.args.job.now)) c.args.k c.args.rows (length c.args.cells.now) (some_stop c.args.job.now) (few_stops c.args.job.now) c.requires.1.most c.requires.1.row c.requires.1.room c.requires.1.head c.requires.1.low).1 in search rules
+overflow_add-base-2 g c = let h = (within c.args.base c.args.w (length (stops_of c.args.job.now)) c.args.k c.args.rows (length c.args.cells.now) (some_stop c.args.job.now) (few_stops c.args.job.now) c.requires.1.most c.requires.1.row c.requires.1.room c.requires.1.used c.requires.1.low).1 in search rules
 
 pub set_entry-requires : goal.set_entry-requires
-set_entry-requires g c = (within c.args.base c.args.w (length (stops_of c.args.job.now)) c.args.k c.args.rows (length c.args.cells.now) (some_stop c.args.job.now) (few_stops c.args.job.now) c.requires.1.most c.requires.1.row c.requires.1.room c.requires.1.head c.requires.1.low).0
+set_entry-requires g c = (within c.args.base c.args.w (length (stops_of c.args.job.now)) c.args.k c.args.rows (length c.args.cells.now) (some_stop c.args.job.now) (few_stops c.args.job.now) c.requires.1.most c.requires.1.row c.requires.1.room c.requires.1.used c.requires.1.low).0
 
 pub split_rest-requires : goal.split_rest-requires
 split_rest-requires g c = let r = c.requires.1.ready in let k = c.set_entry.auto.cells in let told = c.requires.0 in
@@ -63,11 +63,12 @@ returns g c = let meaning = g.M.Measure.meaning in let V = g.row.M-Value.Denot i
     let mids : (i : ℕ) → i < c.args.base → _ = λ i l. c.set_entry.ensures.others i (λ e. omega arith) in
     record {
       kept = λ i l. c.split_rest.ensures.before i (omega arith) ∙ mids i l;
-      others = at_others c.args.cells.now c.set_entry.new.cells c.split_rest.new.cells c.args.n (length (stops_of c.args.job.now)) c.args.base c.args.k c.args.rows c.args.w c.part_here-here.result facts' c.requires.1.row c.requires.1.head;
+      others = at_others c.args.cells.now c.set_entry.new.cells c.split_rest.new.cells c.args.n (length (stops_of c.args.job.now)) c.args.base c.args.k c.args.rows c.args.w c.part_here-here.result facts' c.requires.1.row c.requires.1.used;
       tables = tables_kept c.args.cells.now c.split_rest.new.cells c.args.n c.args.base (stops_of c.args.job.now) c.requires.1.behind (λ i l. c.split_rest.ensures.before i (omega arith) ∙ mids i l) meaning;
-      queue = queue_more c.args.cells.now c.set_entry.new.cells c.split_rest.new.cells c.args.n (length (stops_of c.args.job.now)) c.args.base c.args.k c.args.rows c.args.w c.part_here-here.result facts' c.requires.1.row c.requires.1.head;
+      queue = queue_more c.args.cells.now c.set_entry.new.cells c.split_rest.new.cells c.args.n (length (stops_of c.args.job.now)) c.args.base c.args.k c.args.rows c.args.w c.part_here-here.result facts' c.requires.1.row c.requires.1.used;
+      heads = heads_more c.args.cells.now c.set_entry.new.cells c.split_rest.new.cells c.args.n (length (stops_of c.args.job.now)) c.args.base c.args.k c.args.rows c.args.w c.part_here-here.result facts' c.requires.1.row c.requires.1.used;
       stands = λ τ H given tables queue waits chosen.
-          advanced c.args.cells.now c.set_entry.new.cells c.split_rest.new.cells c.args.n (length (stops_of c.args.job.now)) c.args.base c.args.k c.args.rows c.args.w c.part_here-here.result facts' c.requires.1.row c.requires.1.head
+          advanced c.args.cells.now c.set_entry.new.cells c.split_rest.new.cells c.args.n (length (stops_of c.args.job.now)) c.args.base c.args.k c.args.rows c.args.w c.part_here-here.result facts' c.requires.1.row c.requires.1.used
           meaning g.met.M.Measure.lawful.laws c.args.job.now τ H tables.holds.size (some_stop c.args.job.now) tables queue
           (c.part_here-here.ensures.first τ H tables)
           (subst (λ (x : ℕ). (u : ℕ) → u < length (stops_of c.args.job.now) - ((entry_in c.args.cells.now (c.args.base + c.args.w)).depth + 1) → First (optional meaning) τ H (space_of (entry_in c.split_rest.new.cells (x + u)))) at
