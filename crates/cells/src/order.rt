@@ -21,7 +21,7 @@ pub fn at_most<M: Measure>(a: Option<M::Value>, b: Option<M::Value>) -> bool
 }
 
 // Whether these places are the same as those, or have the smaller one at the first stop where they differ.
-fn not_later(a: &[u8; 12], b: &[u8; 12]) -> bool
+pub fn not_later(a: &[u8; 12], b: &[u8; 12]) -> bool
     ensures { result ≡ not_later 12 0 (places_of a.now) (places_of b.now) }
 {
     for i in 0..12 {

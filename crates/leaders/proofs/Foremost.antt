@@ -18,8 +18,8 @@ use Rattle.cells.specs.Cells.{places_of, space_of, entry_before}
 use Rattle.tables.specs.Tables.{entry_in}
 use Rattle.minima.specs.Tables.{Tables}
 use Rattle.jobs.proofs.Ties.{few_stops, some_stop}
-use Rattle.waiting.specs.Queues.{waiting_in, row_start, Queue}
-use Rattle.leaders.specs.Leaders.{AllLed}
+use Rattle.waiting.specs.Queues.{waiting_in, row_start}
+use Rattle.leaders.specs.Leaders.{AllLed, Rows}
 use Rattle.leaders.proofs.Heads.{chain}
 
 -- an entry behind the heads stands in one of the rows
@@ -58,11 +58,11 @@ module _ {V : Type 0} (meaning : MeasureMeaning V) (laws : Laws meaning.nought m
   itself a = ⊎_elim (λ t. t) (λ t. t) (sooner_total (optional meaning) (lifted meaning laws) 12 (space_of a) (space_of a))
 
 module _ {M V : Type 0} (meaning : MeasureMeaning V) (laws : Laws meaning.nought meaning.joined meaning.before) (cells : List (Cell M V)) (n m base k rows : ℕ) (some : 1 ≤ m)
-    (queue : Queue cells base n m k rows) (led : AllLed meaning cells base m k rows) (w : ℕ) (wl : w < k)
+    (rows_in : Rows cells base n m k rows) (led : AllLed meaning cells base m k rows) (w : ℕ) (wl : w < k)
     (least : (v : ℕ) → v < k → entry_before meaning.before (entry_in cells (base + w)) (entry_in cells (base + v)) ≡ true) where
   -- an entry in a row that is not in use has no plan
   unused : (v row u : ℕ) → v < k * m → rows ≤ row → v ≡ row_start m k row + u → ((entry_in cells (base + v)).score ≡ None → ⊥) → ⊥
-  unused v row u l h e has = let x = mul-le rows (m - 1) row (m - 1) h (omega arith) in let d = queue.free v (omega arith) l in let s = (queue.safe v l has).0 in omega arith
+  unused v row u l h e has = let x = mul-le rows (m - 1) row (m - 1) h (omega arith) in let d = rows_in.queue.free v (omega arith) l in let s = (rows_in.queue.safe v l has).0 in omega arith
 
   -- the least head is at or before every entry with a plan
   pub before_all : (v : ℕ) → v < k * m → ((entry_in cells (base + v)).score ≡ None → ⊥) → entry_before meaning.before (entry_in cells (base + w)) (entry_in cells (base + v)) ≡ true
@@ -86,10 +86,10 @@ pub head_in : (k m w : ℕ) → 1 ≤ m → w < k → w < k * m
 head_in k m w s l = let a = heads_le k m s in omega arith
 
 -- a head with a plan is in use, and can be split
-pub in_use : {M V : Type 0} (cells : List (Cell M V)) (base n m k rows w : ℕ) → 1 ≤ m → Queue cells base n m k rows → w < k → ((entry_in cells (base + w)).score ≡ None → ⊥) →
+pub in_use : {M V : Type 0} (cells : List (Cell M V)) (base n m k rows w : ℕ) → 1 ≤ m → Rows cells base n m k rows → w < k → ((entry_in cells (base + w)).score ≡ None → ⊥) →
     (w ≤ rows) × ((entry_in cells (base + w)).depth < m) × ((t : ℕ) → t < m → places_of (entry_in cells (base + w)).places t < n)
-in_use cells base n m k rows w some queue l has = let s = queue.safe w (head_in k m w some l) has in
-    (⊎_elim (λ h. absurd (let d = queue.heads w (omega arith) (omega arith) l in let e = s.0 in omega arith)) (λ h. h) (cases_lt rows w), s.0, s.1)
+in_use cells base n m k rows w some rows_in l has = let s = rows_in.queue.safe w (head_in k m w some l) has in
+    (⊎_elim (λ h. absurd (let d = rows_in.heads w (omega arith) (omega arith) l in let e = s.0 in omega arith)) (λ h. h) (cases_lt rows w), s.0, s.1)
 
 module _ {M V : Type 0} (meaning : MeasureMeaning V) (laws : Laws meaning.nought meaning.joined meaning.before) (cells : List (Cell M V)) (n : ℕ) (j : Job) (base k : ℕ) (τ : Task (Option V)) (H : ℕ → ℕ → Option V)
     (given : List (ℕ → ℕ)) (tables : Tables meaning cells n (stops_of j) τ H) (waits : Partition (optional meaning) τ H given (k * length (stops_of j)) (waiting_in cells base)) where
@@ -98,15 +98,15 @@ module _ {M V : Type 0} (meaning : MeasureMeaning V) (laws : Laws meaning.nought
   no_rows z = all_none (optional meaning) (lifted meaning laws) τ H tables.holds.rooted tables.minimal given (k * length (stops_of j)) (waiting_in cells base) waits
       (λ w l. absurd (let l' = subst (λ (x : ℕ). w < x * length (stops_of j)) z l in omega arith))
 
-  module _ (rows : ℕ) (queue : Queue cells base n (length (stops_of j)) k rows) (led : AllLed meaning cells base (length (stops_of j)) k rows)
+  module _ (rows : ℕ) (rows_in : Rows cells base n (length (stops_of j)) k rows) (led : AllLed meaning cells base (length (stops_of j)) k rows)
       (w : ℕ) (wl : w < k) (least : (v : ℕ) → v < k → entry_before meaning.before (entry_in cells (base + w)) (entry_in cells (base + v)) ≡ true) where
     pub no_plan : (entry_in cells (base + w)).score ≡ None → NoneLeft (optional meaning) τ given
     no_plan none = all_none (optional meaning) (lifted meaning laws) τ H tables.holds.rooted tables.minimal given (k * length (stops_of j)) (waiting_in cells base) waits
-        (none_at_all meaning laws cells n (length (stops_of j)) base k rows (some_stop j) queue led w wl least none)
+        (none_at_all meaning laws cells n (length (stops_of j)) base k rows (some_stop j) rows_in led w wl least none)
 
     pub chosen : ((entry_in cells (base + w)).score ≡ None → ⊥) → Chosen (optional meaning) τ (k * length (stops_of j)) (waiting_in cells base) w
     chosen has = chosen_by (optional meaning) (lifted meaning laws) τ H tables.holds.rooted tables.minimal 12 (k * length (stops_of j)) w (waiting_in cells base) (let e = tables.holds.size in let f = few_stops j in omega arith)
-        (head_in k (length (stops_of j)) w (some_stop j) wl) waits.first (least_of_all meaning laws cells n (length (stops_of j)) base k rows (some_stop j) queue led w wl least has) has
+        (head_in k (length (stops_of j)) w (some_stop j) wl) waits.first (least_of_all meaning laws cells n (length (stops_of j)) base k rows (some_stop j) rows_in led w wl least has) has
 
     pub first_left : ((entry_in cells (base + w)).score ≡ None → ⊥) → FirstLeft (optional meaning) τ given (places_of (entry_in cells (base + w)).places) (entry_in cells (base + w)).score
     first_left has = chosen_foremost (optional meaning) (lifted meaning laws) τ H tables.holds.rooted tables.minimal given (k * length (stops_of j)) (waiting_in cells base) waits w (chosen has)

@@ -1,4 +1,3 @@
-pub mod Leasts
 pub mod Heads
 pub mod Foremost
 pub mod Onward

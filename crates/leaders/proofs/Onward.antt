@@ -14,10 +14,10 @@ use Rattle.cells.specs.declared.cell.Cell.{Cell}
 use Rattle.cells.specs.declared.cell.Entry.{Entry}
 use Rattle.cells.specs.Cells.{space_of, entry_before}
 use Rattle.tables.specs.Tables.{entry_in, Kept}
-use Rattle.waiting.specs.Queues.{waiting_in, row_start, Safe, Queue}
+use Rattle.waiting.specs.Queues.{waiting_in, row_start, Safe}
 use Rattle.waiting.proofs.Keeping.{same_entry}
 use Rattle.waiting.proofs.Stepping.{row_ends}
-use Rattle.leaders.specs.Leaders.{Promoted, Led, AllLed}
+use Rattle.leaders.specs.Leaders.{Promoted, Led, AllLed, Rows}
 use Rattle.leaders.proofs.Foremost.{head_in}
 
 -- two rows have no entry in common
@@ -54,11 +54,13 @@ module _ {M V : Type 0} (old new : List (Cell M V)) (base m k row : ℕ) (some :
       (cases_eq v p.from))
       (cases_eq v row)
 
-  pub queue_promoted : (n rows : ℕ) → row < rows → Queue old base n m k rows → Queue new base n m k rows
-  queue_promoted n rows h queue = record {
-    heads = λ v z g l. ap (λ (x : Entry V). x.depth) (same_at v (λ e. omega arith) (no_head v g l)) ∙ queue.heads v z g l;
-    free = λ v g l. ap (λ (x : Entry V). x.depth) (same_at v (λ e. omega arith) (out v g)) ∙ queue.free v g l;
-    safe = each (Safe n m) queue.safe;
+  pub rows_promoted : (n rows : ℕ) → row < rows → Rows old base n m k rows → Rows new base n m k rows
+  rows_promoted n rows h in_use = record {
+    queue = record {
+      free = λ v g l. ap (λ (x : Entry V). x.depth) (same_at v (λ e. omega arith) (out v g)) ∙ in_use.queue.free v g l;
+      safe = each (Safe n m) in_use.queue.safe;
+    };
+    heads = λ v z g l. ap (λ (x : Entry V). x.depth) (same_at v (λ e. omega arith) (no_head v g l)) ∙ in_use.heads v z g l;
   } where
     no_head : (v : ℕ) → rows ≤ v → v < k → v ≡ p.from → ⊥
     no_head v g l e = ⊎_elim (λ i. omega arith) (λ i. let x = i.0 in omega arith) p.inside

@@ -1,5 +1,5 @@
 -- Rows of waiting subspaces, each led by its head. The head of row r is entry r, and its other entries begin at
--- `rowStart`. Where every row in use is led, the least of the k heads is the least of all k x m entries.
+-- `row_start`. Where every row in use is led, the least of the k heads is the least of all k x m entries.
 use Rattle.std.specs.Prelude.{◌≡◌, ℕ, ◌+◌, ◌-◌, ◌*◌, ◌<◌, ◌≤◌, true, ◌⊎◌, List, ◌∷◌, length, Option, ◌≢◌, slice_index_or}
 use Rattle.measures.specs.Meaning.{MeasureMeaning}
 use Rattle.measures.specs.Scales.{optional}
@@ -10,7 +10,7 @@ use Rattle.cells.specs.declared.cell.Cell.{Cell}
 use Rattle.cells.specs.Cells.{places_of, entry_before}
 use Rattle.tables.specs.Tables.{blank, entry_in, Kept}
 use Rattle.minima.specs.Tables.{Tables}
-use Rattle.waiting.specs.Queues.{waiting_in, row_start, Queue}
+use Rattle.waiting.specs.Queues.{waiting_in, row_start, Queue, FreeHeads, Splittable}
 
 -- the head of a row is at or before every other entry of it
 pub record Led {M V : Type 0} (meaning : MeasureMeaning V) (cells : List (Cell M V)) (base m k row : ℕ) : Type 0 where
@@ -37,13 +37,23 @@ pub record Promoted {M V : Type 0} (old new : List (Cell M V)) (base m k row : �
   pub inside : (from ≡ row) ⊎ ((row_start m k row ≤ from) × (from < row_start m k row + (m - 1)))
   pub exchanged : Exchanged old new (base + row) (base + from)
 
+-- the first `rows` rows are in use, at the start only the head of row 0; every other entry is empty
+pub record Rows {M V : Type 0} (cells : List (Cell M V)) (base n m k rows : ℕ) : Type 0 where
+  pub queue : Queue cells base n m k rows
+  pub heads : FreeHeads cells base m k rows
+
+-- head w is in use and can be split
+pub record Givable {M V : Type 0} (cells : List (Cell M V)) (n : ℕ) (stops : List Stop) (base k rows w : ℕ) : Type 0 where
+  pub head : w ≤ rows
+  pub split : Splittable cells n stops base k rows w
+
 -- the plan of head w is given, which brings row `rows` into use: the tables stay, every row in use is led where it was,
 -- and where every plan not given waited, every other one waits on
 pub record Advanced {M V : Type 0} (meaning : MeasureMeaning V) (stops : List Stop) (n base k rows w : ℕ) (old new : List (Cell M V)) : Type 0 where
   pub kept : Kept base old new
   pub tables : (τ : Task (Option V)) (H : ℕ → ℕ → Option V) → Tables meaning old n stops τ H → Tables meaning new n stops τ H
-  pub queue : Queue old base n (length stops) k rows → Queue new base n (length stops) k (rows + 1)
+  pub used : Rows old base n (length stops) k rows → Rows new base n (length stops) k (rows + 1)
   pub led : AllLed meaning old base (length stops) k rows → AllLed meaning new base (length stops) k (rows + 1)
-  pub stands : (τ : Task (Option V)) (H : ℕ → ℕ → Option V) (given : List (ℕ → ℕ)) → Tables meaning old n stops τ H → Queue old base n (length stops) k rows →
+  pub stands : (τ : Task (Option V)) (H : ℕ → ℕ → Option V) (given : List (ℕ → ℕ)) → Tables meaning old n stops τ H → Rows old base n (length stops) k rows →
       Partition (optional meaning) τ H given (k * length stops) (waiting_in old base) → Chosen (optional meaning) τ (k * length stops) (waiting_in old base) w →
       Partition (optional meaning) τ H (places_of (entry_in old (base + w)).places ∷ given) (k * length stops) (waiting_in new base)

@@ -1,7 +1,6 @@
 ghost use Rattle.std.specs.Prelude.{◌≡◌, length};
 ghost use Rattle.jobs.specs.Jobs.{stops_of};
-ghost use Rattle.waiting.specs.Queues.{Splittable};
-ghost use Rattle.leaders.specs.Leaders.{Advanced};
+ghost use Rattle.leaders.specs.Leaders.{Advanced, Givable};
 
 use crate::rows::promote;
 use cells::cell::Cell;
@@ -20,7 +19,7 @@ fn split_and_lead<M: Measure>(
     rows: usize,
     w: usize,
 )
-    requires { (m ≡ length (stops_of job.now)) × Splittable cells.old n (stops_of job.now) base k rows w }
+    requires { (m ≡ length (stops_of job.now)) × Givable cells.old n (stops_of job.now) base k rows w }
     ensures { Advanced M.Measure.meaning (stops_of job.now) n base k rows w cells.old cells.new }
 {
     split_off::<M>(cells, n, job, base, k, rows, w);
@@ -38,7 +37,7 @@ pub fn advance<M: Measure>(
     rows: usize,
     w: usize,
 )
-    requires { Splittable cells.old n (stops_of job.now) base k rows w }
+    requires { Givable cells.old n (stops_of job.now) base k rows w }
     ensures { Advanced M.Measure.meaning (stops_of job.now) n base k rows w cells.old cells.new }
 {
     let m = job.len();

@@ -1,33 +1,21 @@
 ghost use Rattle.std.specs.Prelude.{◌≡◌, ℕ, ◌+◌, ◌-◌, ◌*◌, ◌<◌, ◌≤◌, true, not, ◌⊎◌, List, length, IfSome, None, Option, MatchOption, ◌≢◌};
 ghost use Rattle.cells.specs.Cells.{entry_before, places_of};
 ghost use Rattle.tables.specs.Tables.{entry_in};
-ghost use Rattle.leaders.specs.Leaders.{Earliest, Exchanged, Led, Promoted, AllLed};
+ghost use Rattle.leaders.specs.Leaders.{Earliest, Exchanged, Led, Promoted, AllLed, Rows};
 ghost use Rattle.jobs.specs.Jobs.{stops_of};
 ghost use Rattle.measures.specs.Scales.{optional};
 ghost use Rattle.trees.specs.Tasks.{Task};
 ghost use Rattle.trees.specs.Rounds.{Partition, Chosen, FirstLeft, NoneLeft};
 ghost use Rattle.minima.specs.Tables.{Tables};
-ghost use Rattle.waiting.specs.Queues.{waiting_in, Queue};
+ghost use Rattle.waiting.specs.Queues.{waiting_in};
 
 use cells::cell::Cell;
 use cells::order::entry_at_or_before;
 use jobs::job::Job;
-use least::least_of;
 use measures::Measure;
 use tables::access::{entry_at, set_entry};
+use waiting::picking::{least_in, with_plan};
 use waiting::queue::row_start;
-
-// The least of the waiting subspaces in the cells from one to another, counted from the first of them; none where
-// there is no cell.
-fn least_in<'a, M: Measure>(cells: &'a [Cell<M, M::Value>], from: usize, to: usize) -> Option<usize>
-where
-    M: 'a,
-    M::Value: 'a,
-    requires { (from ≤ to) × (to ≤ length cells.now) }
-    ensures { MatchOption result (to ≤ from) (λ i. (from + i < to) × ((v : ℕ) → from + v < to → entry_before M.Measure.meaning.before (entry_in cells.now (from + i)) (entry_in cells.now (from + v)) ≡ true)) }
-{
-    least_of(&cells[from..to])
-}
 
 // Two waiting subspaces change places; nothing else changes.
 fn exchange<M, V: Copy>(cells: &mut [Cell<M, V>], a: usize, b: usize)
@@ -117,20 +105,8 @@ pub fn promote<M: Measure>(
     }
 }
 
-// The entry w, or none where it has no plan.
-fn with_plan<M, V: Copy>(cells: &[Cell<M, V>], base: usize, w: usize) -> Option<usize>
-    requires { (base ≤ 4864) × (w ≤ 256) × (base + w < length cells.now) }
-    ensures { MatchOption result ((entry_in cells.now (base + w)).score ≡ None) (λ v. (v ≡ w) × ((entry_in cells.now (base + w)).score ≢ None)) }
-{
-    let entry = entry_at(cells, base + w);
-    match entry.score {
-        None => None,
-        Some(_) => Some(w),
-    }
-}
-
 // Where the first plan waits that is not given, or none where no plan is left. Only the heads of the rows are looked at.
-pub fn find_next<'a, M: Measure>(
+pub fn find_head<'a, M: Measure>(
     cells: &'a [Cell<M, M::Value>],
     job: &Job,
     base: usize,
@@ -141,10 +117,10 @@ where
     M::Value: 'a,
     requires { (base ≤ 4864) × (k ≤ 256) × (base + k * length (stops_of job.now) ≤ length cells.now) }
     ensures some { IfSome result (λ w. (w < k) × ((entry_in cells.now (base + w)).score ≢ None)) }
-    ensures ready { (n rows : ℕ) → Queue cells.now base n (length (stops_of job.now)) k rows → IfSome result (λ w. (w ≤ rows) × ((entry_in cells.now (base + w)).depth < length (stops_of job.now))
+    ensures ready { (n rows : ℕ) → Rows cells.now base n (length (stops_of job.now)) k rows → IfSome result (λ w. (w ≤ rows) × ((entry_in cells.now (base + w)).depth < length (stops_of job.now))
         × ((t : ℕ) → t < length (stops_of job.now) → places_of (entry_in cells.now (base + w)).places t < n)) }
     ensures plan { (τ : Task (Option M.Value)) (H : ℕ → ℕ → Option M.Value) (n rows : ℕ) (given : List (ℕ → ℕ)) → Tables M.Measure.meaning cells.now n (stops_of job.now) τ H →
-        Queue cells.now base n (length (stops_of job.now)) k rows → AllLed M.Measure.meaning cells.now base (length (stops_of job.now)) k rows →
+        Rows cells.now base n (length (stops_of job.now)) k rows → AllLed M.Measure.meaning cells.now base (length (stops_of job.now)) k rows →
         Partition (optional M.Measure.meaning) τ H given (k * length (stops_of job.now)) (waiting_in cells.now base) →
         MatchOption result (NoneLeft (optional M.Measure.meaning) τ given) (λ w. Chosen (optional M.Measure.meaning) τ (k * length (stops_of job.now)) (waiting_in cells.now base) w
         × FirstLeft (optional M.Measure.meaning) τ given (places_of (entry_in cells.now (base + w)).places) (entry_in cells.now (base + w)).score) }

@@ -9,7 +9,7 @@
 ghost use Rattle.std.specs.Prelude.{◌≡◌, ◌+◌, ◌*◌, ◌<◌, ◌≤◌, true, length};
 ghost use Rattle.jobs.specs.Jobs.{stops_of};
 ghost use Rattle.turns.specs.Standing.{behind_tables, Roomy};
-ghost use Rattle.waiting.specs.Queues.{Queue};
+ghost use Rattle.leaders.specs.Leaders.{Rows};
 
 use anyhow::anyhow;
 use cells::cell::{Cell, Entry};
@@ -222,7 +222,7 @@ fn give_plans<M: Measure>(
     k: usize,
     most: usize,
 ) -> io::Result<()>
-    requires { Roomy cells.old n (length (stops_of job.now)) k × (most ≤ k) × Queue cells.old (behind_tables n (length (stops_of job.now))) n (length (stops_of job.now)) k 0 }
+    requires { Roomy cells.old n (length (stops_of job.now)) k × (most ≤ k) × Rows cells.old (behind_tables n (length (stops_of job.now))) n (length (stops_of job.now)) k 0 }
 {
     for rows in 0..most {
         let Some(w) = look::<M>(cells, n, job, k) else {

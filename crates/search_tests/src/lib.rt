@@ -8,7 +8,7 @@ use cells::cell::{Cell, Entry};
 use cells::order::entry_at_or_before;
 use jobs::job::Job;
 use leaders::advancing::advance;
-use leaders::rows::find_next;
+use leaders::rows::find_head;
 use measures::Measure;
 use measures::optional::join_options;
 use minima::links::{link_at, parent_at};
@@ -158,7 +158,7 @@ fn enumerated<M: Measure>(cells: &mut [Cell<M, M::Value>], job: &Job) -> bool
     ensures { length cells.new ≡ length cells.old }
 {
     for given in 0..28 {
-        match find_next::<M>(cells, job, 18, 28) {
+        match find_head::<M>(cells, job, 18, 28) {
             None => return given == plans::<M>(cells, job),
             Some(w) => {
                 if !right::<M>(cells, job, given, w) {

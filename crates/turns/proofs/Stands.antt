@@ -24,8 +24,8 @@ use Rattle.tours.specs.Turns.{FirstPlanLeft, NoPlanLeft}
 use Rattle.tours.proofs.Turns.{tour_laws_lem}
 use Rattle.minima.specs.Tables.{Tables}
 use Rattle.jobs.proofs.Ties.{job_tree}
-use Rattle.waiting.specs.Queues.{waiting_in, Queue, Splittable}
-use Rattle.leaders.specs.Leaders.{AllLed}
+use Rattle.waiting.specs.Queues.{waiting_in}
+use Rattle.leaders.specs.Leaders.{AllLed, Rows, Givable}
 use Rattle.turns.specs.Standing.{behind_tables, Roomy, Tabled, Standing}
 
 -- the first plan left is the one that is chosen among the subspaces
@@ -56,12 +56,12 @@ module _ {M V : Type 0} (meaning : MeasureMeaning V) (street : StreetMeaning) (o
       tables = tables;
     }
 
-    pub standing : (given : List (ℕ → ℕ)) (rows : ℕ) → rows ≡ length given → Queue new base n (length stops) k rows → AllLed meaning new base (length stops) k rows →
+    pub standing : (given : List (ℕ → ℕ)) (rows : ℕ) → rows ≡ length given → Rows new base n (length stops) k rows → AllLed meaning new base (length stops) k rows →
         Partition (optional meaning) (task_of meaning street (job_meaning stops)) tabled.minima given (k * length stops) (waiting_in new base) → Standing meaning street stops n k given new
     unfolding tabled_kept
     standing given rows e queue led parted = record {
       tabled = tabled_kept;
-      queue = subst (λ (x : ℕ). Queue new x n (length stops) k (length given)) is (subst (λ (r : ℕ). Queue new base n (length stops) k r) e queue);
+      used = subst (λ (x : ℕ). Rows new x n (length stops) k (length given)) is (subst (λ (r : ℕ). Rows new base n (length stops) k r) e queue);
       led = subst (λ (x : ℕ). AllLed meaning new x (length stops) k (length given)) is (subst (λ (r : ℕ). AllLed meaning new base (length stops) k r) e led);
       parted = subst (λ (x : ℕ). Partition (optional meaning) (task_of meaning street (job_meaning stops)) tabled.minima given (k * length stops) (waiting_in new x)) is parted;
     }
@@ -89,16 +89,19 @@ chosen_plan {M} {V} meaning laws street j n k w given cells v s l e first = chos
 -- what the search finds can be split
 pub splittable : {M V : Type 0} (cells : List (Cell M V)) (n k rows base : ℕ) (stops : List Stop) → Roomy cells n (length stops) k → base ≡ behind_tables n (length stops) → base ≤ 4864 → rows < k → (r : Option ℕ) →
     IfSome r (λ w. (w ≤ rows) × ((entry_in cells (base + w)).depth < length stops) × ((t : ℕ) → t < length stops → places_of (entry_in cells (base + w)).places t < n)) →
-    IfSome r (λ w. Splittable cells n stops (behind_tables n (length stops)) k rows w)
+    IfSome r (λ w. Givable cells n stops (behind_tables n (length stops)) k rows w)
 splittable cells n k rows base stops roomy is low row None h = tt
-splittable cells n k rows base stops roomy is low row (Some w) h = let room = roomy.room in record {
-  ready = record { few = roomy.few; room = omega arith };
-  behind = omega arith;
-  low = omega arith;
-  most = roomy.most;
-  room = room;
-  row = row;
+splittable cells n k rows base stops roomy is low row (Some w) h = let room = roomy.room in let head = h.0 in record {
   head = h.0;
-  deep = subst (λ (b : ℕ). (entry_in cells (b + w)).depth < length stops) is h.1;
-  placed = subst (λ (b : ℕ). (t : ℕ) → t < length stops → places_of (entry_in cells (b + w)).places t < n) is h.2;
+  split = record {
+    ready = record { few = roomy.few; room = omega arith };
+    behind = omega arith;
+    low = omega arith;
+    most = roomy.most;
+    room = room;
+    row = row;
+    used = omega arith;
+    deep = subst (λ (b : ℕ). (entry_in cells (b + w)).depth < length stops) is h.1;
+    placed = subst (λ (b : ℕ). (t : ℕ) → t < length stops → places_of (entry_in cells (b + w)).places t < n) is h.2;
+  };
 }

@@ -14,8 +14,8 @@ use Rattle.tours.specs.Jobs.{job_meaning}
 use Rattle.tours.specs.Tasks.{task_of}
 use Rattle.tours.specs.Turns.{FirstPlanLeft, NoPlanLeft}
 use Rattle.minima.specs.Tables.{Tables}
-use Rattle.waiting.specs.Queues.{waiting_in, Queue, Splittable}
-use Rattle.leaders.specs.Leaders.{AllLed}
+use Rattle.waiting.specs.Queues.{waiting_in}
+use Rattle.leaders.specs.Leaders.{AllLed, Rows, Givable}
 
 -- where the waiting subspaces begin: behind n x n pairs of places and m x n stops at places
 abbrev pub behind_tables : ℕ → ℕ → ℕ
@@ -40,18 +40,18 @@ pub record Tabled {M V : Type 0} (meaning : MeasureMeaning V) (street : StreetMe
 -- waits in exactly one entry of the cells, each entry knowing the first plan of those that wait in it
 pub record Standing {M V : Type 0} (meaning : MeasureMeaning V) (street : StreetMeaning) (stops : List Stop) (n k : ℕ) (given : List (ℕ → ℕ)) (cells : List (Cell M V)) : Type 0 where
   pub tabled : Tabled meaning street stops n cells
-  pub queue : Queue cells (behind_tables n (length stops)) n (length stops) k (length given)
+  pub used : Rows cells (behind_tables n (length stops)) n (length stops) k (length given)
   pub led : AllLed meaning cells (behind_tables n (length stops)) (length stops) k (length given)
   pub parted : Partition (optional meaning) (task_of meaning street (job_meaning stops)) tabled.minima given (k * length stops) (waiting_in cells (behind_tables n (length stops)))
 
 -- all plans wait, over the tables that the cells held before: nothing is given
 pub record Waits {M V : Type 0} (meaning : MeasureMeaning V) (stops : List Stop) (n k : ℕ) (old new : List (Cell M V)) : Type 0 where
-  pub queue : Queue new (behind_tables n (length stops)) n (length stops) k 0
+  pub used : Rows new (behind_tables n (length stops)) n (length stops) k 0
   pub stands : (street : StreetMeaning) → Tabled meaning street stops n old → Standing meaning street stops n k [] new
 
 -- the same over the street that the cells held before, whose tables have been worked out
 pub record Begun {M V : Type 0} (meaning : MeasureMeaning V) (stops : List Stop) (n k : ℕ) (old new : List (Cell M V)) : Type 0 where
-  pub queue : Queue new (behind_tables n (length stops)) n (length stops) k 0
+  pub used : Rows new (behind_tables n (length stops)) n (length stops) k 0
   pub stands : (street : StreetMeaning) → Sound street → street.places ≡ n → Filled meaning street old → Standing meaning street stops n k [] new
 
 -- the waiting subspace of entry w
@@ -62,12 +62,12 @@ entry_at cells n m w = entry_in cells (behind_tables n m + w)
 -- split, `rows` plans being given
 pub record Looked {M V : Type 0} (meaning : MeasureMeaning V) (stops : List Stop) (n k : ℕ) (cells : List (Cell M V)) (r : Option ℕ) : Type 0 where
   pub some : IfSome r (λ w. (w < k) × ((entry_at cells n (length stops) w).score ≢ None))
-  pub ready : (rows : ℕ) → rows < k → Queue cells (behind_tables n (length stops)) n (length stops) k rows → IfSome r (λ w. Splittable cells n stops (behind_tables n (length stops)) k rows w)
+  pub ready : (rows : ℕ) → rows < k → Rows cells (behind_tables n (length stops)) n (length stops) k rows → IfSome r (λ w. Givable cells n stops (behind_tables n (length stops)) k rows w)
   pub plan : (street : StreetMeaning) (given : List (ℕ → ℕ)) → Standing meaning street stops n k given cells → MatchOption r (NoPlanLeft meaning street (job_meaning stops) given)
       (λ w. (v : V) × ((entry_at cells n (length stops) w).score ≡ Some v) × FirstPlanLeft meaning street (job_meaning stops) given (places_of (entry_at cells n (length stops) w).places) v)
 
 -- the plan of entry w is given, after `rows` others; every plan that waited and is not given waits on
 pub record Gave {M V : Type 0} (meaning : MeasureMeaning V) (stops : List Stop) (n k rows w : ℕ) (old new : List (Cell M V)) : Type 0 where
-  pub queue : Queue old (behind_tables n (length stops)) n (length stops) k rows → Queue new (behind_tables n (length stops)) n (length stops) k (rows + 1)
+  pub used : Rows old (behind_tables n (length stops)) n (length stops) k rows → Rows new (behind_tables n (length stops)) n (length stops) k (rows + 1)
   pub stands : (street : StreetMeaning) (given : List (ℕ → ℕ)) (v : V) → rows ≡ length given → Standing meaning street stops n k given old → (entry_at old n (length stops) w).score ≡ Some v →
       FirstPlanLeft meaning street (job_meaning stops) given (places_of (entry_at old n (length stops) w).places) v → Standing meaning street stops n k (places_of (entry_at old n (length stops) w).places ∷ given) new

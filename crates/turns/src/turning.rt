@@ -1,13 +1,13 @@
 ghost use Rattle.std.specs.Prelude.{◌≡◌, ◌≤◌, length};
 ghost use Rattle.jobs.specs.Jobs.{stops_of};
-ghost use Rattle.waiting.specs.Queues.{Splittable};
+ghost use Rattle.leaders.specs.Leaders.{Givable};
 ghost use Rattle.turns.specs.Standing.{behind_tables, Roomy, Looked, Gave};
 
 use crate::starting::behind_tables;
 use cells::cell::Cell;
 use jobs::job::Job;
 use leaders::advancing::advance;
-use leaders::rows::find_next;
+use leaders::rows::find_head;
 use measures::Measure;
 
 // Looks among the entries from cell `base` on, behind the tables.
@@ -24,7 +24,7 @@ where
     requires { Roomy cells.now n (length (stops_of job.now)) k × (base ≡ behind_tables n (length (stops_of job.now))) × (base ≤ 4864) }
     ensures { Looked M.Measure.meaning (stops_of job.now) n k cells.now result }
 {
-    find_next::<M>(cells, job, base, k)
+    find_head::<M>(cells, job, base, k)
 }
 
 // Where the first plan waits that is not given, or none where no plan is left. Nothing is given by looking.
@@ -55,7 +55,7 @@ fn give_behind<M: Measure>(
     rows: usize,
     w: usize,
 )
-    requires { Splittable cells.old n (stops_of job.now) (behind_tables n (length (stops_of job.now))) k rows w × (base ≡ behind_tables n (length (stops_of job.now))) }
+    requires { Givable cells.old n (stops_of job.now) (behind_tables n (length (stops_of job.now))) k rows w × (base ≡ behind_tables n (length (stops_of job.now))) }
     ensures { Gave M.Measure.meaning (stops_of job.now) n k rows w cells.old cells.new }
 {
     advance::<M>(cells, n, job, base, k, rows, w);
@@ -70,7 +70,7 @@ pub fn give<M: Measure>(
     rows: usize,
     w: usize,
 )
-    requires { Splittable cells.old n (stops_of job.now) (behind_tables n (length (stops_of job.now))) k rows w }
+    requires { Givable cells.old n (stops_of job.now) (behind_tables n (length (stops_of job.now))) k rows w }
     ensures { Gave M.Measure.meaning (stops_of job.now) n k rows w cells.old cells.new }
 {
     let stops = job.len();

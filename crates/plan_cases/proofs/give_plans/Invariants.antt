@@ -1,8 +1,8 @@
 use Rattle.std.proofs.Common.{length}
 use Rattle.jobs.specs.Jobs.{stops_of}
 use Rattle.turns.specs.Standing.{behind_tables}
-use Rattle.waiting.specs.Queues.{Queue}
+use Rattle.leaders.specs.Leaders.{Rows}
 use Rattle.plan_cases.proofs.give_plans.Given as goal
 
 abbrev pub invariant-loop-rows : goal.invariant-loop-rows
-invariant-loop-rows g l = Queue l.cells (behind_tables l.n (length (stops_of l.job))) l.n (length (stops_of l.job)) l.k l.rows
+invariant-loop-rows g l = Rows l.cells (behind_tables l.n (length (stops_of l.job))) l.n (length (stops_of l.job)) l.k l.rows

@@ -7,8 +7,8 @@ use Rattle.tables.specs.Tables.{entry_in}
 use Rattle.tours.specs.Jobs.{job_meaning}
 use Rattle.tours.specs.Tasks.{task_of}
 use Rattle.jobs.proofs.Ties.{some_stop}
-use Rattle.waiting.specs.Queues.{waiting_in, Queue, Splittable}
-use Rattle.leaders.specs.Leaders.{AllLed}
+use Rattle.waiting.specs.Queues.{waiting_in}
+use Rattle.leaders.specs.Leaders.{AllLed, Rows, Givable}
 use Rattle.leaders.proofs.Foremost.{head_in}
 use Rattle.turns.specs.Standing.{behind_tables}
 use Rattle.turns.proofs.Stands.{standing, chosen_plan}
@@ -17,12 +17,12 @@ use Rattle.turns.proofs.turning.give_behind.Goals as goal
 pub returns : goal.returns
 returns g c = let meaning = g.M.Measure.meaning in let V = g.row.M-Value.Denot in
     let is : c.args.base ≡ behind_tables c.args.n (length (stops_of c.args.job.now)) = c.requires.1 in
-    let wl : c.args.w < c.args.k * length (stops_of c.args.job.now) = head_in c.args.k (length (stops_of c.args.job.now)) c.args.w (some_stop c.args.job.now) (let r = c.requires.0.row in let w = c.requires.0.head in omega arith) in record {
-      queue = λ queue. subst (λ (b : ℕ). Queue c.advance.new.cells b c.args.n (length (stops_of c.args.job.now)) c.args.k (c.args.rows + 1)) is
-          (c.advance.ensures.queue (subst (λ (b : ℕ). Queue c.args.cells.now b c.args.n (length (stops_of c.args.job.now)) c.args.k c.args.rows) (sym is) queue));
+    let wl : c.args.w < c.args.k * length (stops_of c.args.job.now) = head_in c.args.k (length (stops_of c.args.job.now)) c.args.w (some_stop c.args.job.now) (let r = c.requires.0.split.row in let w = c.requires.0.head in omega arith) in record {
+      used = λ queue. subst (λ (b : ℕ). Rows c.advance.new.cells b c.args.n (length (stops_of c.args.job.now)) c.args.k (c.args.rows + 1)) is
+          (c.advance.ensures.used (subst (λ (b : ℕ). Rows c.args.cells.now b c.args.n (length (stops_of c.args.job.now)) c.args.k c.args.rows) (sym is) queue));
       stands = λ street given v e s scored first. let τ = task_of meaning street (job_meaning (stops_of c.args.job.now)) in
-          let queue = subst (λ (b : ℕ). Queue c.args.cells.now b c.args.n (length (stops_of c.args.job.now)) c.args.k c.args.rows) (sym is)
-          (subst (λ (r : ℕ). Queue c.args.cells.now (behind_tables c.args.n (length (stops_of c.args.job.now))) c.args.n (length (stops_of c.args.job.now)) c.args.k r) (sym e) s.queue) in
+          let queue = subst (λ (b : ℕ). Rows c.args.cells.now b c.args.n (length (stops_of c.args.job.now)) c.args.k c.args.rows) (sym is)
+          (subst (λ (r : ℕ). Rows c.args.cells.now (behind_tables c.args.n (length (stops_of c.args.job.now))) c.args.n (length (stops_of c.args.job.now)) c.args.k r) (sym e) s.used) in
           let led = subst (λ (b : ℕ). AllLed meaning c.args.cells.now b (length (stops_of c.args.job.now)) c.args.k c.args.rows) (sym is)
           (subst (λ (r : ℕ). AllLed meaning c.args.cells.now (behind_tables c.args.n (length (stops_of c.args.job.now))) (length (stops_of c.args.job.now)) c.args.k r) (sym e) s.led) in
           let parted = subst (λ (b : ℕ). Partition (optional meaning) (task_of meaning street (job_meaning (stops_of c.args.job.now))) s.tabled.minima given (c.args.k * length (stops_of c.args.job.now)) (waiting_in c.args.cells.now b)) (sym is) s.parted in
@@ -31,10 +31,10 @@ returns g c = let meaning = g.M.Measure.meaning in let V = g.row.M-Value.Denot i
           standing meaning street c.args.cells.now c.advance.new.cells (stops_of c.args.job.now) c.args.n c.args.k c.args.base is c.advance.ensures.kept s.tabled
           (c.advance.ensures.tables τ s.tabled.minima s.tabled.tables)
           (places_of (entry_in c.args.cells.now (behind_tables c.args.n (length (stops_of c.args.job.now)) + c.args.w)).places ∷ given) (c.args.rows + 1) (add-one c.args.rows ∙ ap suc e)
-          (c.advance.ensures.queue queue) (c.advance.ensures.led led)
+          (c.advance.ensures.used queue) (c.advance.ensures.led led)
           (subst (λ (b : ℕ). Partition (optional meaning) (task_of meaning street (job_meaning (stops_of c.args.job.now))) s.tabled.minima (places_of (entry_in c.args.cells.now (b + c.args.w)).places ∷ given) (c.args.k * length (stops_of c.args.job.now)) (waiting_in c.advance.new.cells c.args.base)) is
           (c.advance.ensures.stands τ s.tabled.minima given s.tabled.tables queue parted chosen));
     }
 
 pub advance-requires : goal.advance-requires
-advance-requires g c = subst (λ (b : ℕ). Splittable c.args.cells.now c.args.n (stops_of c.args.job.now) b c.args.k c.args.rows c.args.w) (sym c.requires.1) c.requires.0
+advance-requires g c = subst (λ (b : ℕ). Givable c.args.cells.now c.args.n (stops_of c.args.job.now) b c.args.k c.args.rows c.args.w) (sym c.requires.1) c.requires.0

@@ -7,8 +7,8 @@ use Rattle.tables.specs.Tables.{entry_in}
 use Rattle.tours.specs.Jobs.{job_meaning}
 use Rattle.tours.specs.Tasks.{task_of}
 use Rattle.tours.specs.Turns.{FirstPlanLeft, NoPlanLeft}
-use Rattle.waiting.specs.Queues.{waiting_in, Queue}
-use Rattle.leaders.specs.Leaders.{AllLed}
+use Rattle.waiting.specs.Queues.{waiting_in}
+use Rattle.leaders.specs.Leaders.{AllLed, Rows}
 use Rattle.turns.specs.Standing.{behind_tables}
 use Rattle.turns.proofs.Stands.{found, splittable}
 use Rattle.turns.proofs.turning.look_behind.Goals as goal
@@ -16,16 +16,16 @@ use Rattle.turns.proofs.turning.look_behind.Goals as goal
 pub returns : goal.returns
 returns g c = let meaning = g.M.Measure.meaning in let V = g.row.M-Value.Denot in
     let is : c.args.base ≡ behind_tables c.args.n (length (stops_of c.args.job.now)) = c.requires.1 in record {
-      some = subst (λ (b : ℕ). IfSome c.find_next.result (λ w. (w < c.args.k) × ((entry_in c.args.cells.now (b + w)).score ≡ None → ⊥))) is c.find_next.ensures.some;
-      ready = λ rows row queue. splittable c.args.cells.now c.args.n c.args.k rows c.args.base (stops_of c.args.job.now) c.requires.0 is c.requires.2 row c.find_next.result
-          (c.find_next.ensures.ready c.args.n rows (subst (λ (b : ℕ). Queue c.args.cells.now b c.args.n (length (stops_of c.args.job.now)) c.args.k rows) (sym is) queue));
+      some = subst (λ (b : ℕ). IfSome c.find_head.result (λ w. (w < c.args.k) × ((entry_in c.args.cells.now (b + w)).score ≡ None → ⊥))) is c.find_head.ensures.some;
+      ready = λ rows row queue. splittable c.args.cells.now c.args.n c.args.k rows c.args.base (stops_of c.args.job.now) c.requires.0 is c.requires.2 row c.find_head.result
+          (c.find_head.ensures.ready c.args.n rows (subst (λ (b : ℕ). Rows c.args.cells.now b c.args.n (length (stops_of c.args.job.now)) c.args.k rows) (sym is) queue));
       plan = λ street given s. let τ = task_of meaning street (job_meaning (stops_of c.args.job.now)) in
-          subst (λ (b : ℕ). MatchOption c.find_next.result (NoPlanLeft meaning street (job_meaning (stops_of c.args.job.now)) given) (λ w. (v : V) × ((entry_in c.args.cells.now (b + w)).score ≡ Some v)
+          subst (λ (b : ℕ). MatchOption c.find_head.result (NoPlanLeft meaning street (job_meaning (stops_of c.args.job.now)) given) (λ w. (v : V) × ((entry_in c.args.cells.now (b + w)).score ≡ Some v)
           × FirstPlanLeft meaning street (job_meaning (stops_of c.args.job.now)) given (places_of (entry_in c.args.cells.now (b + w)).places) v)) is
-          (found meaning g.met.M.Measure.lawful.laws street c.args.job.now c.args.n c.args.k given c.args.cells.now c.args.base s c.find_next.result
+          (found meaning g.met.M.Measure.lawful.laws street c.args.job.now c.args.n c.args.k given c.args.cells.now c.args.base s c.find_head.result
           (λ w. Chosen (optional meaning) (task_of meaning street (job_meaning (stops_of c.args.job.now))) (c.args.k * length (stops_of c.args.job.now)) (waiting_in c.args.cells.now c.args.base) w)
-          (c.find_next.ensures.plan τ s.tabled.minima c.args.n (length given) given s.tabled.tables
-          (subst (λ (b : ℕ). Queue c.args.cells.now b c.args.n (length (stops_of c.args.job.now)) c.args.k (length given)) (sym is) s.queue)
+          (c.find_head.ensures.plan τ s.tabled.minima c.args.n (length given) given s.tabled.tables
+          (subst (λ (b : ℕ). Rows c.args.cells.now b c.args.n (length (stops_of c.args.job.now)) c.args.k (length given)) (sym is) s.used)
           (subst (λ (b : ℕ). AllLed meaning c.args.cells.now b (length (stops_of c.args.job.now)) c.args.k (length given)) (sym is) s.led)
           (subst (λ (b : ℕ). Partition (optional meaning) (task_of meaning street (job_meaning (stops_of c.args.job.now))) s.tabled.minima given (c.args.k * length (stops_of c.args.job.now)) (waiting_in c.args.cells.now b)) (sym is) s.parted)));
     }

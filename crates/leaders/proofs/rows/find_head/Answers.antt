@@ -6,9 +6,9 @@ use Rattle.cells.specs.Cells.{places_of}
 use Rattle.tables.specs.Tables.{entry_in}
 use Rattle.jobs.proofs.Ties.{some_stop}
 use Rattle.waiting.specs.Queues.{waiting_in}
-use Rattle.leaders.proofs.Leasts.{told}
+use Rattle.waiting.proofs.Leasts.{told}
 use Rattle.leaders.proofs.Foremost.{heads_le, in_use, no_rows, no_plan, chosen, first_left}
-use Rattle.leaders.proofs.rows.find_next.Goals as goal
+use Rattle.leaders.proofs.rows.find_head.Goals as goal
 
 pub returns-in-None : goal.returns-in-None
 returns-in-None g c = let h = c.in-None.ensures in record {

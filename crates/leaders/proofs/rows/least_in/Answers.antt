@@ -1,5 +1,0 @@
-use Rattle.leaders.proofs.Leasts.{least_cells}
-use Rattle.leaders.proofs.rows.least_in.Goals as goal
-
-pub returns : goal.returns
-returns g c = least_cells c.args.cells.now g.M.Measure.meaning.before c.args.from c.args.to c.requires.0 c.requires.1 c.least_of.result c.least_of.ensures
