@@ -31,10 +31,17 @@ impl From<InputRefusal> for Refusal {
     ghost from_gives = { λ i r. (r.number ≡ number_of i) × (r.line ≡ line_of i) × (r.field ≡ field_of i) };
 
     fn from(refusal: InputRefusal) -> Refusal {
-        Refusal {
-            number: refusal.number(),
-            line: refusal.line(),
-            field: refusal.field(),
+        match refusal {
+            InputRefusal::Limit(limit) => Refusal {
+                number: limit.number(),
+                line: 0,
+                field: 0,
+            },
+            InputRefusal::Text(fault) => Refusal {
+                number: fault.number(),
+                line: fault.line(),
+                field: fault.field(),
+            },
         }
     }
 }
