@@ -18,9 +18,10 @@ use std::fmt::{Display, Formatter, Write};
 use std::{fmt, io, iter};
 use streets::legs::{Leg, LegRecord};
 
-// What stands in the lists before a text is read.
+// A kind that stands in the list before a text is read.
 const OLD_KIND: u8 = 77;
 
+// A leg record that stands in the list before a text is read.
 const OLD_LEG: LegRecord = LegRecord {
     from: 77,
     to: 77,
@@ -96,16 +97,19 @@ impl Display for Legs<'_> {
 
 // A stop: its kind, and how it hangs on its parent.
 #[derive(Clone, Copy)]
-struct Shown(Stop);
+struct ShownStop(Stop);
 
-impl Display for Shown {
+impl Display for ShownStop {
     fn fmt<W: Write>(&self, f: &mut Formatter<W>) -> fmt::Result {
-        let kind = self.0.kind;
-        match self.0.tie {
-            None => write!(f, "{kind}"),
-            Some(Tie { parent, link: Link::Direct }) => write!(f, "{kind}:{parent}:direct"),
-            Some(Tie { parent, link: Link::Ride }) => write!(f, "{kind}:{parent}:ride"),
-        }
+        let Stop { kind, tie } = self.0;
+        let Some(Tie { parent, link }) = tie else {
+            return write!(f, "{kind}");
+        };
+        let link = match link {
+            Link::Direct => "direct",
+            Link::Ride => "ride",
+        };
+        write!(f, "{kind}:{parent}:{link}")
     }
 }
 
@@ -115,10 +119,15 @@ fn print_fault(rt: &HostRuntime, fault: TextFault) -> io::Result<()> {
         TextFault::Book(_) => "book",
         TextFault::Job(_) => "job",
     };
-    println!(rt; "E {} {} {} in a {text}", fault.number(), fault.line(), fault.field())
+    println!(rt;
+        "E {} {} {} in a {text}",
+        fault.number(),
+        fault.line(),
+        fault.field()
+    )
 }
 
-// The lists are printed whole, so that what was left untouched shows.
+// Reads a street book. The lists are printed whole, so that what was left untouched shows.
 fn book_case(rt: &HostRuntime, rest: &str) -> anyhow::Result<()> {
     let (kind_room, rest) = rest.split_once(' ').context("no room for kinds")?;
     let (leg_room, text) = rest.split_once(' ').context("no room for legs")?;
@@ -135,6 +144,7 @@ fn book_case(rt: &HostRuntime, rest: &str) -> anyhow::Result<()> {
     Ok(())
 }
 
+// Reads a job text and prints the stops that the job then has.
 fn job_case(rt: &HostRuntime, text: &str) -> anyhow::Result<()> {
     let bytes = unescaped(rt.alloc(), text)?;
     let mut job = Job::new();
@@ -144,12 +154,13 @@ fn job_case(rt: &HostRuntime, text: &str) -> anyhow::Result<()> {
     }
     print!(rt; "  job")?;
     for stop in (0..job.len()).filter_map(|s| job.stop(s)) {
-        print!(rt; " {}", Shown(stop))?;
+        print!(rt; " {}", ShownStop(stop))?;
     }
     println!(rt)?;
     Ok(())
 }
 
+// Asks whether the console reads the text.
 fn limit_case(rt: &HostRuntime, text: &str) -> anyhow::Result<()> {
     let bytes = unescaped(rt.alloc(), text)?;
     match admit(&bytes) {
@@ -159,6 +170,7 @@ fn limit_case(rt: &HostRuntime, text: &str) -> anyhow::Result<()> {
     Ok(())
 }
 
+// Prints a case's line and what it asks for; a line without a case's name asks for nothing.
 fn case(rt: &HostRuntime, line: &str) -> anyhow::Result<()> {
     println!(rt; "{line}")?;
     match line.split_once(' ') {

@@ -14,6 +14,7 @@ use streets::list::{ListStreet, MOST_PLACES};
 // The leg records that the console has room for.
 const LEG_ROOM: usize = 128;
 
+// What stands in those records before a book is read.
 const NO_LEG: LegRecord = LegRecord {
     from: 0,
     to: 0,
@@ -52,6 +53,7 @@ fn print_account(rt: &HostRuntime, street: &ListStreet, job: &Job, read: Inputs)
     Ok(())
 }
 
+// Reads the two texts, and prints the account of them or the first refusal.
 fn main(rt: HostRuntime) -> io::Result<()> {
     let book = text_of(&rt, "street.txt")?;
     let text = text_of(&rt, "job.txt")?;

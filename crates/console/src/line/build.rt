@@ -37,6 +37,7 @@ impl Line {
         }
     }
 
+    // Not by `write!`, which was tried: nothing is promised of a write that fails, and a line's only refusal is 50.
     // Some text more.
     pub(crate) fn text(mut self, text: &str) -> Line
         requires { length (shown self) + length text.now ≤ 96 }
@@ -46,7 +47,7 @@ impl Line {
         self
     }
 
-    // A number, which takes at most as many digits as its type's greatest.
+    // A number, which takes no more digits than the greatest of its type.
     pub(crate) fn number<I: Integer>(self, n: I) -> Line
         requires { length (shown self) + I.MAX_STR_LEN ≤ 96 }
         ensures value { shown result ≡ shown self ++ I.text n }
