@@ -37,8 +37,8 @@ impl Line {
         }
     }
 
-    // Not by `write!`, which was tried: nothing is promised of a write that fails, and a line's only refusal is 50.
     // Some text more.
+    // Not by `write!`, which was tried: nothing is promised of a write that fails, and a line's only refusal is 50.
     pub(crate) fn text(mut self, text: &str) -> Line
         requires { length (shown self) + length text.now ≤ 96 }
         ensures { shown result ≡ shown self ++ text.now }
