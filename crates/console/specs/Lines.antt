@@ -1,12 +1,12 @@
 -- The lines that the console prints.
-use Rattle.std.specs.Prelude.{ℕ, cond, List, length, take, Ok, Err, Result, nat_lt}
+use Rattle.std.specs.Prelude.{ℕ, cond, List, length, Ok, Err, Result, nat_lt}
 use Rattle.console.specs.declared.line.Line.{Line}
 use Rattle.console.specs.declared.line.build.LineRefusal.{LineRefusal}
 use Rattle.console.specs.declared.line.build.LineRefusal.TheVariants.{NoRoom}
 
 -- the bytes of a line
 abbrev pub shown : Line → List ℕ
-shown l = take l.len l.bytes
+shown l = l.text.bytes
 
 -- the number that stands for each refusal
 abbrev pub number_of : LineRefusal → ℕ

@@ -1,86 +1,112 @@
-ghost use Rattle.std.specs.Prelude.{◌≡◌, length, MatchResult};
+ghost use Rattle.std.specs.Prelude.{◌≡◌, ℕ, ◌≤◌, List, length, IfOk, MatchResult};
 ghost use Rattle.books.specs.Books.{over};
+ghost use Rattle.console.specs.Inputs.{number_of, line_of, field_of};
 ghost use Rattle.console.specs.Lines.{shown, printed};
 ghost use Rattle.console.specs.Accounts.{refusal_line, totals_line, stop_line};
 
+use crate::inputs::{InputRefusal, Inputs};
 use crate::line::Line;
 use crate::line::build::LineRefusal;
 use choices::answers::Choices;
 
-// `E`, the number of a refusal, and the line and the field that it stands in.
-fn refusal_line(number: u8, line: u64, field: u64) -> Line
-    ensures { shown result ≡ refusal_line number line field }
-{
-    Line::new()
-        .text(b"E ")
-        .number(u64::from(number))
-        .text(b" ")
-        .number(line)
-        .text(b" ")
-        .number(field)
-        .text(b"\n")
+// What the console prints as one line.
+pub trait ToLine {
+    // The line's bytes.
+    ghost bytes: { Self → List ℕ };
+
+    // The line, put together.
+    fn to_line(&self) -> Line
+        ensures { shown result ≡ bytes self.now };
+}
+
+// A refusal: its number, and the line and the field of a text that it stands in, 0 where there is none.
+#[derive(Clone, Copy, Debug, PartialEq, Eq)]
+pub struct Refusal {
+    pub number: u8,
+    pub line: usize,
+    pub field: usize,
+}
+
+impl From<InputRefusal> for Refusal {
+    ghost from_gives = { λ i r. (r.number ≡ number_of i) × (r.line ≡ line_of i) × (r.field ≡ field_of i) };
+
+    fn from(refusal: InputRefusal) -> Refusal {
+        match refusal {
+            InputRefusal::Limit(limit) => Refusal {
+                number: limit.number(),
+                line: 0,
+                field: 0,
+            },
+            InputRefusal::Text(fault) => Refusal {
+                number: fault.number(),
+                line: fault.line(),
+                field: fault.field(),
+            },
+        }
+    }
+}
+
+// On which places a stop can be put.
+#[derive(Clone, Copy)]
+pub struct StopChoices {
+    pub stop: usize,
+    pub choices: Choices,
+}
+
+impl ToLine for Refusal {
+    ghost bytes = { λ r. refusal_line r.number r.line r.field };
+
+    fn to_line(&self) -> Line {
+        Line::new()
+            .text("E ")
+            .number(self.number)
+            .text(" ")
+            .number(self.line)
+            .text(" ")
+            .number(self.field)
+            .text("\n")
+    }
 }
 
 // How many places, legs and stops were read.
-fn totals_line(places: u64, legs: u64, stops: u64) -> Line
-    ensures { shown result ≡ totals_line places legs stops }
-{
-    Line::new()
-        .text(b"places ")
-        .number(places)
-        .text(b" legs ")
-        .number(legs)
-        .text(b" stops ")
-        .number(stops)
-        .text(b"\n")
+impl ToLine for Inputs {
+    ghost bytes = { λ i. totals_line i.street.places i.street.legs i.stops };
+
+    fn to_line(&self) -> Line {
+        Line::new()
+            .text("places ")
+            .number(self.street.places)
+            .text(" legs ")
+            .number(self.street.legs)
+            .text(" stops ")
+            .number(self.stops)
+            .text("\n")
+    }
 }
 
-// On which places a stop can be put: the set, its size and its least place.
-fn stop_line(stop: u8, choices: Choices) -> Line
-    ensures { shown result ≡ stop_line stop choices }
-{
-    Line::new()
-        .text(b"stop ")
-        .short_number(u32::from(stop))
-        .text(b" set ")
-        .number(choices.set.bits())
-        .text(b" size ")
-        .short_number(choices.size)
-        .text(b" least ")
-        .short_number(choices.least)
-        .text(b"\n")
+// The set of the places, its size and its least place.
+impl ToLine for StopChoices {
+    ghost bytes = { λ s. stop_line s.stop s.choices };
+
+    fn to_line(&self) -> Line {
+        Line::new()
+            .text("stop ")
+            .number(self.stop)
+            .text(" set ")
+            .number(self.choices.set.bits())
+            .text(" size ")
+            .number(self.choices.size)
+            .text(" least ")
+            .number(self.choices.least)
+            .text("\n")
+    }
 }
 
-// Writes a refusal's line to the front of `out` and tells its length.
-pub fn write_refusal(
-    out: &mut [u8],
-    number: u8,
-    line: usize,
-    field: usize,
-) -> Result<usize, LineRefusal>
-    ensures value { result ≡ printed (length out.old) (refusal_line number line field) }
-    ensures written { MatchResult result (λ _. out.new ≡ over (refusal_line number line field) out.old) (λ _. out.new ≡ out.old) }
+// Writes a line to the front of `out` and tells its length, with fewer than 96 bytes of room nothing.
+pub fn write_line<L: ToLine>(out: &mut [u8], shows: &L) -> Result<usize, LineRefusal>
+    ensures value { result ≡ printed (length out.old) (L.bytes shows.now) }
+    ensures written { MatchResult result (λ _. out.new ≡ over (L.bytes shows.now) out.old) (λ _. out.new ≡ out.old) }
+    ensures within { IfOk result (λ n. n ≤ 96) }
 {
-    refusal_line(number, line as u64, field as u64).write(out)
-}
-
-// Writes the line with the counts of what was read.
-pub fn write_totals(
-    out: &mut [u8],
-    places: usize,
-    legs: usize,
-    stops: usize,
-) -> Result<usize, LineRefusal>
-    ensures value { result ≡ printed (length out.old) (totals_line places legs stops) }
-    ensures written { MatchResult result (λ _. out.new ≡ over (totals_line places legs stops) out.old) (λ _. out.new ≡ out.old) }
-{
-    totals_line(places as u64, legs as u64, stops as u64).write(out)
-}
-
-// Writes the line of a stop and its choices.
-pub fn write_stop(out: &mut [u8], stop: u8, choices: Choices) -> Result<usize, LineRefusal>
-    ensures value { result ≡ printed (length out.old) (stop_line stop choices) }
-    ensures written { MatchResult result (λ _. out.new ≡ over (stop_line stop choices) out.old) (λ _. out.new ≡ out.old) }
-{
-    stop_line(stop, choices).write(out)
+    shows.to_line().write(out)
 }

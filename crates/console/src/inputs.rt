@@ -2,7 +2,7 @@ ghost use Rattle.std.specs.Prelude.{◌≡◌, ◌≤◌, length, IfOk, MatchRes
 ghost use Rattle.books.specs.Books.{room_in, over};
 ghost use Rattle.jobs.specs.Jobs.{stops_of};
 ghost use Rattle.console.specs.declared.inputs.InputRefusal.TheVariants.{Limit, Text};
-ghost use Rattle.console.specs.Inputs.{number_of, line_of, field_of, book_in, job_in, inputs_of};
+ghost use Rattle.console.specs.Inputs.{book_in, job_in, inputs_of};
 
 use crate::limit::{LimitRefusal, admit};
 use books::book::read_book;
@@ -39,38 +39,6 @@ impl From<TextFault> for InputRefusal {
 
     fn from(fault: TextFault) -> InputRefusal {
         InputRefusal::Text(fault)
-    }
-}
-
-impl InputRefusal {
-    // The number that stands for the refusal.
-    pub fn number(self) -> u8
-        ensures { result ≡ number_of self }
-    {
-        match self {
-            InputRefusal::Limit(refusal) => refusal.number(),
-            InputRefusal::Text(fault) => fault.number(),
-        }
-    }
-
-    // The line that is refused, 0 for a whole text.
-    pub fn line(self) -> usize
-        ensures { result ≡ line_of self }
-    {
-        match self {
-            InputRefusal::Limit(_) => 0,
-            InputRefusal::Text(fault) => fault.line(),
-        }
-    }
-
-    // The field that is refused, 0 for a whole line.
-    pub fn field(self) -> usize
-        ensures { result ≡ field_of self }
-    {
-        match self {
-            InputRefusal::Limit(_) => 0,
-            InputRefusal::Text(fault) => fault.field(),
-        }
     }
 }
 

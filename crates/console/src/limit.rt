@@ -5,7 +5,7 @@ ghost use Rattle.console.specs.Limits.{admitted, number_of};
 pub const MOST_BYTES: usize = 4096;
 
 // Why a text is not read.
-#[derive(Clone, Copy)]
+#[derive(Clone, Copy, Debug, PartialEq, Eq)]
 pub enum LimitRefusal {
     // more than 4,096 bytes
     TooLong,

@@ -5,29 +5,23 @@
 // In TEXT \t is byte 9, \n byte 10, \h byte 200, and \*N;c stands for N bytes c.
 #![tactic(auto)]
 
-use anyhow::anyhow;
+use anyhow::{Context, bail};
 use books::book::read_book;
 use books::line::Counts;
 use console::limit::admit;
 use faults::TextFault;
 use job_texts::text::read_job;
 use jobs::job::Job;
-use jobs::stops::{Link, Stop};
-use std::alloc::{AllocError, Global};
-use std::io;
+use jobs::stops::{Link, Stop, Tie};
+use std::alloc::Global;
+use std::fmt::{Display, Formatter, Write};
+use std::{fmt, io, iter};
 use streets::legs::{Leg, LegRecord};
 
-#[derive(Clone, Copy)]
-enum State {
-    Plain,
-    Escape,
-    Count(u32),
-    Fill(u32),
-}
-
-// What stands in the lists before a text is read.
+// A kind that stands in the list before a text is read.
 const OLD_KIND: u8 = 77;
 
+// A leg record that stands in the list before a text is read.
 const OLD_LEG: LegRecord = LegRecord {
     from: 77,
     to: 77,
@@ -37,177 +31,159 @@ const OLD_LEG: LegRecord = LegRecord {
     },
 };
 
-fn escaped(out: &mut Vec<u8>, b: u8) -> Result<State, AllocError> {
-    match b {
-        b't' => out.push(9)?,
-        b'n' => out.push(10)?,
-        b'h' => out.push(200)?,
-        b'*' => return Ok(State::Count(0)),
-        _ => out.push(b)?,
-    }
-    Ok(State::Plain)
+// What follows `\*`: N bytes c, and then the text as it stands.
+fn repeat(out: &mut Vec<u8>, text: &str) -> anyhow::Result<()> {
+    let (count, rest) = text.split_once(';').context("no end of a count")?;
+    let mut rest = rest.bytes();
+    let byte = rest.next().context("no byte after a count")?;
+    out.extend(iter::repeat_n(byte, count.parse::<usize>()?))?;
+    out.extend(rest)?;
+    Ok(())
 }
 
-fn filled(out: &mut Vec<u8>, n: u32, b: u8) -> Result<State, AllocError> {
-    for _ in 0..n {
-        out.push(b)?;
+// What follows a `\`, up to the next.
+fn unescape(out: &mut Vec<u8>, text: &str) -> anyhow::Result<()> {
+    let mut rest = text.chars();
+    match rest.next() {
+        Some('t') => out.push(9)?,
+        Some('n') => out.push(10)?,
+        Some('h') => out.push(200)?,
+        Some('*') => return repeat(out, rest.as_str()),
+        _ => bail!("no such letter after a backslash"),
     }
-    Ok(State::Plain)
+    out.extend_from_slice(rest.as_str().as_bytes())?;
+    Ok(())
 }
 
-fn counted(n: u32, b: u8) -> State {
-    if b < b'0' || b > b'9' {
-        return State::Fill(n);
-    }
-    State::Count(n.wrapping_mul(10).wrapping_add(u32::from(b - b'0')))
-}
-
-fn step(out: &mut Vec<u8>, state: State, b: u8) -> Result<State, AllocError> {
-    match state {
-        State::Plain => {
-            if b == b'\\' {
-                return Ok(State::Escape);
-            }
-            out.push(b)?;
-            Ok(State::Plain)
-        }
-        State::Escape => escaped(out, b),
-        State::Count(n) => Ok(counted(n, b)),
-        State::Fill(n) => filled(out, n, b),
-    }
-}
-
-fn unescaped(heap: Global, text: &str) -> Result<Vec<u8>, AllocError> {
+// The bytes that a text of a case stands for.
+fn unescaped(heap: Global, text: &str) -> anyhow::Result<Vec<u8>> {
     let mut out = Vec::new(heap);
-    let mut state = State::Plain;
-    for b in text.as_bytes() {
-        state = step(&mut out, state, *b)?;
+    let mut pieces = text.split('\\');
+    if let Some(plain) = pieces.next() {
+        out.extend_from_slice(plain.as_bytes())?;
+    }
+    for piece in pieces {
+        unescape(&mut out, piece)?;
     }
     Ok(out)
 }
 
+// Kinds, each after a space.
+#[derive(Clone, Copy)]
+struct Kinds<'a>(&'a [u8]);
+
+impl Display for Kinds<'_> {
+    fn fmt<W: Write>(&self, f: &mut Formatter<W>) -> fmt::Result {
+        for kind in self.0 {
+            write!(f, " {kind}")?;
+        }
+        Ok(())
+    }
+}
+
+// Leg records, each after a space.
+#[derive(Clone, Copy)]
+struct Legs<'a>(&'a [LegRecord]);
+
+impl Display for Legs<'_> {
+    fn fmt<W: Write>(&self, f: &mut Formatter<W>) -> fmt::Result {
+        for record in self.0 {
+            let LegRecord { from, to, leg } = *record;
+            write!(f, " {from}-{to}:{}:{}", leg.climb, leg.seconds)?;
+        }
+        Ok(())
+    }
+}
+
+// A stop: its kind, and how it hangs on its parent.
+#[derive(Clone, Copy)]
+struct ShownStop(Stop);
+
+impl Display for ShownStop {
+    fn fmt<W: Write>(&self, f: &mut Formatter<W>) -> fmt::Result {
+        let Stop { kind, tie } = self.0;
+        let Some(Tie { parent, link }) = tie else {
+            return write!(f, "{kind}");
+        };
+        let link = match link {
+            Link::Direct => "direct",
+            Link::Ride => "ride",
+        };
+        write!(f, "{kind}:{parent}:{link}")
+    }
+}
+
+// A fault: its number, its line and field, and in which text it is.
 fn print_fault(rt: &HostRuntime, fault: TextFault) -> io::Result<()> {
-    let number = fault.number();
-    let line = fault.line();
-    let field = fault.field();
     let text = match fault {
         TextFault::Book(_) => "book",
         TextFault::Job(_) => "job",
     };
-    println!(rt; "E {number} {line} {field} in a {text}")
+    println!(rt;
+        "E {} {} {} in a {text}",
+        fault.number(),
+        fault.line(),
+        fault.field()
+    )
 }
 
-fn print_leg(rt: &HostRuntime, record: &LegRecord) -> io::Result<()> {
-    let from = record.from;
-    let to = record.to;
-    let climb = record.leg.climb;
-    let seconds = record.leg.seconds;
-    print!(rt; " {from}-{to}:{climb}:{seconds}")
-}
-
-// Prints the whole lists, so that what was left untouched shows.
-fn print_lists(rt: &HostRuntime, kinds: &[u8], legs: &[LegRecord]) -> io::Result<()> {
-    print!(rt; "  kinds")?;
-    for kind in kinds {
-        print!(rt; " {kind}")?;
-    }
-    print!(rt; " legs")?;
-    for record in legs {
-        print_leg(rt, record)?;
-    }
-    println!(rt)
-}
-
-fn print_counts(rt: &HostRuntime, counts: Counts) -> io::Result<()> {
-    let places = counts.places;
-    let legs = counts.legs;
-    println!(rt; "places {places} legs {legs}")
-}
-
+// Reads a street book. The lists are printed whole, so that what was left untouched shows.
 fn book_case(rt: &HostRuntime, rest: &str) -> anyhow::Result<()> {
-    let Some((kind_room, rest)) = rest.split_once(' ') else {
-        return Err(anyhow!("no room for kinds"));
-    };
-    let Some((leg_room, text)) = rest.split_once(' ') else {
-        return Err(anyhow!("no room for legs"));
-    };
+    let (kind_room, rest) = rest.split_once(' ').context("no room for kinds")?;
+    let (leg_room, text) = rest.split_once(' ').context("no room for legs")?;
     let mut kinds = vec![in rt.alloc(); OLD_KIND; kind_room.parse::<usize>()?]?;
     let mut legs = vec![in rt.alloc(); OLD_LEG; leg_room.parse::<usize>()?]?;
     let bytes = unescaped(rt.alloc(), text)?;
-    match read_book(bytes.as_slice(), kinds.as_mut_slice(), legs.as_mut_slice()) {
-        Ok(counts) => print_counts(rt, counts)?,
+    match read_book(&bytes, &mut kinds, &mut legs) {
+        Ok(Counts { places, legs }) => println!(rt; "places {places} legs {legs}")?,
         Err(fault) => print_fault(rt, fault)?,
     }
     if kinds.len() + legs.len() <= 16 {
-        print_lists(rt, kinds.as_slice(), legs.as_slice())?;
+        println!(rt; "  kinds{} legs{}", Kinds(&kinds), Legs(&legs))?;
     }
     Ok(())
 }
 
-fn print_stop(rt: &HostRuntime, stop: Stop) -> io::Result<()> {
-    let kind = stop.kind;
-    match stop.tie {
-        None => print!(rt; " {kind}"),
-        Some(tie) => {
-            let parent = tie.parent;
-            match tie.link {
-                Link::Direct => print!(rt; " {kind}:{parent}:direct"),
-                Link::Ride => print!(rt; " {kind}:{parent}:ride"),
-            }
-        }
-    }
-}
-
+// Reads a job text and prints the stops that the job then has.
 fn job_case(rt: &HostRuntime, text: &str) -> anyhow::Result<()> {
     let bytes = unescaped(rt.alloc(), text)?;
     let mut job = Job::new();
-    match read_job(bytes.as_slice(), &mut job) {
+    match read_job(&bytes, &mut job) {
         Ok(stops) => println!(rt; "stops {stops}")?,
         Err(fault) => print_fault(rt, fault)?,
     }
     print!(rt; "  job")?;
-    for s in 0..12 {
-        if let Some(stop) = job.stop(s) {
-            print_stop(rt, stop)?;
-        }
+    for stop in (0..job.len()).filter_map(|s| job.stop(s)) {
+        print!(rt; " {}", ShownStop(stop))?;
     }
     println!(rt)?;
     Ok(())
 }
 
+// Asks whether the console reads the text.
 fn limit_case(rt: &HostRuntime, text: &str) -> anyhow::Result<()> {
     let bytes = unescaped(rt.alloc(), text)?;
-    match admit(bytes.as_slice()) {
+    match admit(&bytes) {
         Ok(length) => println!(rt; "{length} bytes")?,
-        Err(refusal) => {
-            let number = refusal.number();
-            println!(rt; "E {number}")?
-        }
+        Err(refusal) => println!(rt; "E {}", refusal.number())?,
     }
     Ok(())
 }
 
+// Prints a case's line and what it asks for; a line without a case's name asks for nothing.
 fn case(rt: &HostRuntime, line: &str) -> anyhow::Result<()> {
     println!(rt; "{line}")?;
-    let Some((name, rest)) = line.split_once(' ') else {
-        return Ok(());
-    };
-    match name {
-        "book" => book_case(rt, rest),
-        "job" => job_case(rt, rest),
-        "limit" => limit_case(rt, rest),
+    match line.split_once(' ') {
+        Some(("book", rest)) => book_case(rt, rest),
+        Some(("job", rest)) => job_case(rt, rest),
+        Some(("limit", rest)) => limit_case(rt, rest),
         _ => Ok(()),
     }
 }
 
-fn run(rt: &HostRuntime) -> anyhow::Result<()> {
+fn main(rt: HostRuntime) -> anyhow::Result<()> {
     for line in rt.lines(rt.alloc()) {
-        let line = line?;
-        case(rt, line.as_str())?;
+        case(&rt, line?.as_str())?;
     }
     Ok(())
-}
-
-fn main(rt: HostRuntime) -> anyhow::Result<()> {
-    run(&rt)
 }
