@@ -1,5 +1,6 @@
 -- How digits are read one by one.
 use Rattle.std.proofs.Common.{◌≡◌, ℕ, ◌+◌, ◌-◌, ◌*◌, ◌^◌, ◌<◌, ◌≤◌, true, false, ◌&&◌, leb, List, length, get_or, drop, Ok, Err, sym, ap, ◌∙◌, pow-suc, add-one, arith}
+use Rattle.std.specs.Char.{is_ascii_digit}
 use Rattle.std.specs.Str.{all_ascii_digits}
 use Rattle.std.proofs.lemmas.List.{at_drop_more, at_drop_all}
 use Rattle.std.proofs.lemmas.Bool.{le-leb, lt-leb, and_from, and_left, and_right, cond-true, cond-false}
@@ -8,14 +9,11 @@ use Rattle.faults.specs.declared.Spot.{Spot}
 use Rattle.faults.specs.Faults.{field_fault}
 use Rattle.texts.specs.Numbers.{decimal, decimal_after, is_number, numeral}
 
-pub digits_more : (xs : List ℕ) (i : ℕ) → i < length xs → 48 ≤ get_or xs i 0 → get_or xs i 0 ≤ 57 → all_ascii_digits (drop i xs) ≡ all_ascii_digits (drop (i + 1) xs)
-digits_more xs i h lo hi = at_drop_more all_ascii_digits xs i 0 h ∙ ap (λ t. t && all_ascii_digits (drop (i + 1) xs)) (and_from _ _ (le-leb 48 _ lo) (le-leb _ 57 hi))
+pub digits_more : (xs : List ℕ) (i : ℕ) → i < length xs → is_ascii_digit (get_or xs i 0) ≡ true → all_ascii_digits (drop i xs) ≡ all_ascii_digits (drop (i + 1) xs)
+digits_more xs i h e = at_drop_more all_ascii_digits xs i 0 h ∙ ap (λ t. t && all_ascii_digits (drop (i + 1) xs)) e
 
-pub digits_low : (xs : List ℕ) (i : ℕ) → i < length xs → get_or xs i 0 < 48 → all_ascii_digits (drop i xs) ≡ false
-digits_low xs i h lo = at_drop_more all_ascii_digits xs i 0 h ∙ and_left _ _ (and_left _ _ (lt-leb 48 _ lo))
-
-pub digits_high : (xs : List ℕ) (i : ℕ) → i < length xs → 57 < get_or xs i 0 → all_ascii_digits (drop i xs) ≡ false
-digits_high xs i h hi = at_drop_more all_ascii_digits xs i 0 h ∙ and_left _ _ (and_right _ _ (lt-leb _ 57 hi))
+pub digits_not : (xs : List ℕ) (i : ℕ) → i < length xs → is_ascii_digit (get_or xs i 0) ≡ false → all_ascii_digits (drop i xs) ≡ false
+digits_not xs i h e = at_drop_more all_ascii_digits xs i 0 h ∙ and_left _ _ e
 
 pub digits_end : (xs : List ℕ) (i : ℕ) → length xs ≤ i → all_ascii_digits (drop i xs) ≡ true
 digits_end xs i h = at_drop_all all_ascii_digits xs i h

@@ -1,9 +1,9 @@
 use Rattle.std.proofs.Common.{arith}
-use Rattle.texts.proofs.Values.{digits_more, digits_low, digits_high, digits_end, decimal_more, decimal_end, power_more, no_digits, is_number_lem, above, reads}
+use Rattle.texts.proofs.Values.{digits_more, digits_not, digits_end, decimal_more, decimal_end, power_more, no_digits, is_number_lem, above, reads}
 use Rattle.texts.proofs.number.number.Goals as goal
 
-pub returns-then-b-lt48 : goal.returns-then-b-lt48
-returns-then-b-lt48 c = record { value = grind (arith, digits_low, digits_high, no_digits); high = tt }
+pub returns-then-not-is_ascii_digit : goal.returns-then-not-is_ascii_digit
+returns-then-not-is_ascii_digit c = record { value = grind (arith, digits_not, no_digits); high = tt }
 
 pub loop-b-preserved : goal.loop-b-preserved
 loop-b-preserved c = grind (arith, decimal_more, digits_more, power_more)
