@@ -5,10 +5,10 @@ ghost use Rattle.books.specs.Sensible.{Sensible};
 ghost use Rattle.books.specs.Books.{counts as countsOf, book_lines, book_of, finished, read_book, room_in, tally, over};
 
 use crate::line::{Counts, Entry, Room, read_line};
-use faults::{Cause, LineFault, Text, TextFault, TextWrong};
+use faults::{LineFault, Text, TextFault};
 use streets::legs::LegRecord;
 use streets::list::{MOST_PLACES, MOST_RECORDS};
-use texts::MOST_BYTES;
+use texts::length::check_length;
 use texts::reader::Reader;
 
 // The first pass: how much the lines tell, or the first refused line's fault. Nothing is written.
@@ -33,9 +33,7 @@ fn judge_book(text: &[u8], room: Room) -> Result<Counts, TextFault>
     ensures value { result ≡ tally (read_book room text.now) }
     ensures sensible { room.kinds ≤ 64 → room.legs ≤ 4096 → IfOk (read_book room text.now) Sensible }
 {
-    if text.len() > MOST_BYTES {
-        return Err(TextFault::Book(Cause::Whole(TextWrong::TooLong)));
-    }
+    check_length(Text::Book, text)?;
     Ok(judge(text, room)?)
 }
 

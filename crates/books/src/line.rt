@@ -15,14 +15,14 @@ pub enum Entry {
 }
 
 // How many places and legs were told.
-#[derive(Clone, Copy)]
+#[derive(Clone, Copy, Debug, PartialEq, Eq)]
 pub struct Counts {
     pub places: usize,
     pub legs: usize,
 }
 
 // How many kinds and legs there is room for.
-#[derive(Clone, Copy)]
+#[derive(Clone, Copy, Debug, PartialEq, Eq)]
 pub struct Room {
     pub kinds: usize,
     pub legs: usize,
@@ -98,13 +98,13 @@ pub fn read_line(reader: &mut Reader, told: Counts, room: Room) -> Result<Entry,
 {
     let fields = reader.fields();
     match reader.letter() {
-        Some(b) if b == b'P' => {
+        Some(b'P') => {
             if fields != 3 {
                 return Err(reader.line_fault(LineWrong::FieldCount));
             }
             read_place(reader, told, room)
         }
-        Some(b) if b == b'L' => {
+        Some(b'L') => {
             if fields != 5 {
                 return Err(reader.line_fault(LineWrong::FieldCount));
             }

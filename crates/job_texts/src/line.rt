@@ -26,17 +26,12 @@ pub struct StopLine {
 fn read_link(at: Spot, parent: u8, letter: Option<u8>) -> Result<Option<Tie>, LineFault>
     ensures { result ≡ link_of at parent letter }
 {
-    match letter {
-        Some(b) if b == b'd' => Ok(Some(Tie {
-            parent,
-            link: Link::Direct,
-        })),
-        Some(b) if b == b'r' => Ok(Some(Tie {
-            parent,
-            link: Link::Ride,
-        })),
-        _ => Err(at.fault(FieldWrong::WrongLink, 5)),
-    }
+    let link = match letter {
+        Some(b'd') => Link::Direct,
+        Some(b'r') => Link::Ride,
+        _ => return Err(at.fault(FieldWrong::WrongLink, 5)),
+    };
+    Ok(Some(Tie { parent, link }))
 }
 
 // The root has `-` for its link.
@@ -44,7 +39,7 @@ fn read_root(at: Spot, letter: Option<u8>) -> Result<Option<Tie>, LineFault>
     ensures { result ≡ tie_of at 0 None letter }
 {
     match letter {
-        Some(b) if b == b'-' => Ok(None),
+        Some(b'-') => Ok(None),
         _ => Err(at.fault(FieldWrong::WrongLink, 5)),
     }
 }
@@ -61,18 +56,9 @@ fn read_tie(
     ensures keeps { IfOk result (λ t. tied told t ≡ true) }
 {
     match parent {
-        None => {
-            if told != 0 {
-                return Err(at.fault(FieldWrong::WrongParent, 3));
-            }
-            read_root(at, letter)
-        }
-        Some(p) => {
-            if p >= told as u64 {
-                return Err(at.fault(FieldWrong::WrongParent, 3));
-            }
-            read_link(at, p as u8, letter)
-        }
+        None if told == 0 => read_root(at, letter),
+        Some(p) if p < told as u64 => read_link(at, p as u8, letter),
+        _ => Err(at.fault(FieldWrong::WrongParent, 3)),
     }
 }
 
@@ -131,7 +117,7 @@ pub fn read_line(reader: &mut Reader, told: usize) -> Result<Stop, LineFault>
 {
     let fields = reader.fields();
     match reader.letter() {
-        Some(b) if b == b'S' => {
+        Some(b'S') => {
             if fields != 5 {
                 return Err(reader.line_fault(LineWrong::FieldCount));
             }

@@ -5,9 +5,9 @@ ghost use Rattle.texts.specs.Rows.{read_rows, read_text};
 ghost use Rattle.job_texts.specs.Texts.{job_lines, read_job, drafted_in, tally};
 
 use crate::line::read_line;
-use faults::{Cause, LineFault, Text, TextFault, TextWrong};
+use faults::{LineFault, Text, TextFault, TextWrong};
 use jobs::job::{Draft, Job};
-use texts::MOST_BYTES;
+use texts::length::check_length;
 use texts::reader::Reader;
 
 // The stops that the lines tell, or the first refused line's fault.
@@ -29,9 +29,7 @@ fn read_rows(text: &[u8]) -> Result<Draft, LineFault>
 fn read_draft(text: &[u8]) -> Result<Draft, TextFault>
     ensures { drafted_in result ≡ read_text job_lines 0 text.now }
 {
-    if text.len() > MOST_BYTES {
-        return Err(TextFault::Job(Cause::Whole(TextWrong::TooLong)));
-    }
+    check_length(Text::Job, text)?;
     Ok(read_rows(text)?)
 }
 
@@ -42,8 +40,6 @@ pub fn read_job(text: &[u8], job: &mut Job) -> Result<usize, TextFault>
     ensures put { MatchResult (read_job text.now) (λ stops. stops_of job.new ≡ stops) (λ _. job.new ≡ job.old) }
 {
     let draft = read_draft(text)?;
-    match job.put(draft) {
-        Ok(stops) => Ok(stops),
-        Err(_) => Err(TextFault::Job(Cause::Whole(TextWrong::NoLines))),
-    }
+    job.put(draft)
+        .map_err(|_| Text::Job.fault(TextWrong::NoLines))
 }
