@@ -6,6 +6,7 @@ ghost use Rattle.books.specs.Lines.{place_of, leg_of, line_of, Fits};
 
 use faults::{FieldWrong, LineFault, LineWrong};
 use streets::legs::{Leg, LegRecord};
+use texts::number::LAST_KIND;
 use texts::reader::Reader;
 
 // What one line of a book tells.
@@ -36,10 +37,8 @@ pub struct Progress {
     pub room: Room,
 }
 
-// The most that a place, a kind, and a climb or a number of seconds may be.
+// The most that a place, and a climb or a number of seconds may be.
 const LAST_PLACE: u64 = 63;
-
-const LAST_KIND: u64 = 255;
 
 const MOST: u64 = 65535;
 

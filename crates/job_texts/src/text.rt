@@ -10,7 +10,8 @@ use jobs::job::{Draft, Job};
 use texts::length::check_length;
 use texts::reader::Reader;
 
-// The stops that the lines tell, or the first refused line's fault.
+// The stops that the lines tell, or the first refused line's fault. The loop is a job's own: a trait for books and jobs,
+// with the state, the entry and what an entry keeps as members, would be longer than the loop that it saves.
 fn read_rows(text: &[u8]) -> Result<Draft, LineFault>
     ensures { drafted_in result ≡ read_rows job_lines 0 1 (rows text.now) }
 {
@@ -18,9 +19,7 @@ fn read_rows(text: &[u8]) -> Result<Draft, LineFault>
     let mut draft = Draft::new();
     while reader.next_line()? {
         let stop = read_line(&mut reader, draft.len())?;
-        let Ok(()) = draft.push(stop) else {
-            return unreachable();
-        };
+        draft.push(stop).unwrap();
     }
     Ok(draft)
 }

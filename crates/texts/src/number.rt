@@ -3,6 +3,9 @@ ghost use Rattle.texts.specs.Numbers.{numeral};
 
 use faults::{FieldFault, FieldWrong, Spot};
 
+// The most that a kind may be, in both texts.
+pub const LAST_KIND: u64 = 255;
+
 // The number in the field at a spot: one to five digits, at most `bound`. The running value is carried in 64 bits.
 pub fn number(part: &[u8], bound: u64, at: Spot) -> Result<u64, FieldFault>
     ensures value { result ≡ numeral bound at part.now }
