@@ -42,6 +42,7 @@ const LAST_PLACE: u64 = 63;
 
 const MOST: u64 = 65535;
 
+// The casts keep what `number` bounded; `try_from` would add an error that cannot come.
 impl Progress {
     // A place line after its letter.
     fn read_place(self, reader: &mut Reader) -> Result<Entry, LineFault>

@@ -10,8 +10,8 @@ use jobs::job::{Draft, Job};
 use texts::length::check_length;
 use texts::reader::Reader;
 
-// The stops that the lines tell, or the first refused line's fault. The loop is a job's own: a trait for books and jobs,
-// with the state, the entry and what an entry keeps as members, would be longer than the loop that it saves.
+// The stops that the lines tell, or the first refused line's fault.
+// A trait for books and jobs, with state, entry and what an entry keeps as members, would be longer than this one loop.
 fn read_rows(text: &[u8]) -> Result<Draft, LineFault>
     ensures { drafted_in result ≡ read_rows job_lines 0 1 (rows text.now) }
 {
