@@ -1,3 +1,4 @@
 pub mod Lines
 pub mod Books
 pub mod Sensible
+pub mod Entries

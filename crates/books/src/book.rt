@@ -4,27 +4,21 @@ ghost use Rattle.texts.specs.Rows.{read_rows, state_after};
 ghost use Rattle.books.specs.Sensible.{Sensible};
 ghost use Rattle.books.specs.Books.{counts as countsOf, book_lines, book_of, finished, read_book, room_in, tally, over};
 
-use crate::line::{Counts, Entry, Room, read_line};
-use faults::{Cause, LineFault, Text, TextFault, TextWrong};
+use crate::entries::Entries;
+use crate::line::{Counts, Entry, Room};
+use faults::{LineFault, Text, TextFault};
 use streets::legs::LegRecord;
 use streets::list::{MOST_PLACES, MOST_RECORDS};
-use texts::MOST_BYTES;
-use texts::reader::Reader;
+use texts::length::check_length;
 
 // The first pass: how much the lines tell, or the first refused line's fault. Nothing is written.
 fn judge(text: &[u8], room: Room) -> Result<Counts, LineFault>
     ensures within { IfOk result (λ c. (c.places ≤ room.kinds) × (c.legs ≤ room.legs)) }
     ensures value { result ≡ state_after (book_lines room) (countsOf 0 0) (read_rows (book_lines room) (countsOf 0 0) 1 (rows text.now)) }
 {
-    let mut reader = Reader::new(Text::Book, text);
-    let mut told = Counts { places: 0, legs: 0 };
-    while reader.next_line()? {
-        match read_line(&mut reader, told, room)? {
-            Entry::Place { .. } => told.places += 1,
-            Entry::Leg(_) => told.legs += 1,
-        }
-    }
-    Ok(told)
+    let mut entries = Entries::new(text, room);
+    while entries.next()?.is_some() {}
+    Ok(entries.told())
 }
 
 // The first pass over a whole text, which must not be too long.
@@ -33,9 +27,7 @@ fn judge_book(text: &[u8], room: Room) -> Result<Counts, TextFault>
     ensures value { result ≡ tally (read_book room text.now) }
     ensures sensible { room.kinds ≤ 64 → room.legs ≤ 4096 → IfOk (read_book room text.now) Sensible }
 {
-    if text.len() > MOST_BYTES {
-        return Err(TextFault::Book(Cause::Whole(TextWrong::TooLong)));
-    }
+    check_length(Text::Book, text)?;
     Ok(judge(text, room)?)
 }
 
@@ -45,19 +37,14 @@ fn fill(text: &[u8], room: Room, kinds: &mut [u8], legs: &mut [LegRecord]) -> Re
     ensures value { result ≡ finished (read_rows (book_lines room) (countsOf 0 0) 1 (rows text.now)) }
     ensures written { IfOk (book_of (read_rows (book_lines room) (countsOf 0 0) 1 (rows text.now))) (λ b. (kinds.new ≡ over b.kinds kinds.old) × (legs.new ≡ over b.legs legs.old)) }
 {
-    let mut reader = Reader::new(Text::Book, text);
-    let mut told = Counts { places: 0, legs: 0 };
-    while reader.next_line()? {
-        match read_line(&mut reader, told, room)? {
-            Entry::Place { kind } => {
-                kinds[told.places] = kind;
-                told.places += 1;
-            }
-            Entry::Leg(leg) => {
-                legs[told.legs] = leg;
-                told.legs += 1;
-            }
+    let mut entries = Entries::new(text, room);
+    let mut told = entries.told();
+    while let Some(entry) = entries.next()? {
+        match entry {
+            Entry::Place { kind } => kinds[told.places] = kind,
+            Entry::Leg(leg) => legs[told.legs] = leg,
         }
+        told = entries.told();
     }
     Ok(())
 }

@@ -1,4 +1,5 @@
 #![tactic(auto)]
 
 pub mod book;
+mod entries;
 pub mod line;

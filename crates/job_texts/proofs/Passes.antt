@@ -1,42 +1,27 @@
 -- How far a pass over the rows of a job text has come, and that its faults say job.
-use Rattle.std.proofs.Common.{◌≡◌, ℕ, ◌+◌, eqb, ltb, List, [], ◌∷◌, ◌++◌, length, drop, Some, None, Ok, Err, Option, Result, sym, refl, ap, ◌∙◌, append_assoc, length-append}
+use Rattle.std.proofs.Common.{◌≡◌, ℕ, eqb, ltb, List, ◌++◌, length, drop, Some, None, Ok, Err, Option, Result, sym, refl, ap, ◌∙◌}
 use Rattle.jobs.specs.declared.job.Draft.{Draft}
 use Rattle.jobs.specs.declared.stops.Stop.{Stop}
 use Rattle.faults.specs.declared.LineFault.{LineFault}
 use Rattle.faults.specs.declared.Spot.{Spot}
-use Rattle.texts.specs.Cut.{Row}
 use Rattle.faults.specs.Faults.{next_field}
 use Rattle.texts.specs.Numbers.{number_in, number_or_dash_in, letter_in}
-use Rattle.texts.specs.Rows.{before, read_rows}
 use Rattle.texts.specs.Rules.{is}
 use Rattle.texts.proofs.Says.{Says, either_says, then_says, number_says, dash_says}
 use Rattle.job_texts.specs.declared.line.StopLine.{StopLine}
 use Rattle.job_texts.specs.Lines.{link_of, tie_of, parts_of, judged, line_of}
-use Rattle.job_texts.specs.Texts.{job_lines, drafted_in}
+use Rattle.job_texts.specs.Texts.{drafted_in}
 
 -- the stops so far, joined to what is left to read
 abbrev pub after : List Stop → Result (List Stop) LineFault → Result (List Stop) LineFault
 after ss (Ok rest) = Ok (ss ++ rest)
 after ss (Err f) = Err f
 
-after_stop : (ss : List Stop) (s : Stop) (r : Result (List Stop) LineFault) → after ss (before s r) ≡ after (ss ++ s ∷ []) r
-after_stop ss s (Ok rest) = ap Ok (sym (append_assoc ss (s ∷ []) rest))
-after_stop ss s (Err f) = refl
-
-pub after_nothing : (r : Result (List Stop) LineFault) → after [] r ≡ r
-after_nothing (Ok es) = refl
-after_nothing (Err f) = refl
-
--- one stop more
-pub stop_here : (ss ss' : List Stop) (s : Stop) (l : ℕ) (rs : List Row) (all total : Result (List Stop) LineFault) → after ss all ≡ total → all ≡ before s (read_rows job_lines (length ss + 1) l rs) → ss' ≡ ss ++ s ∷ [] → after ss' (read_rows job_lines (length ss') l rs) ≡ total
-stop_here ss ss' s l rs all total inv read pushed =
-    let long : length ss' ≡ length ss + 1 = ap length pushed ∙ length-append ss (s ∷ []) in
-    rw (long, pushed) (sym (after_stop ss s (read_rows job_lines (length ss + 1) l rs)) ∙ ap (after ss) (sym read) ∙ inv)
-
 -- what was not drafted was refused
 pub refused_is : (r : Result Draft LineFault) (all : Result (List Stop) LineFault) (f : LineFault) → drafted_in r ≡ all → r ≡ Err f → all ≡ Err f
 refused_is r all f e bad = sym e ∙ ap drafted_in bad
 
+-- a fault of a line says the text that the line stands in
 link_says : (s : Spot) (p : ℕ) (link : Option ℕ) → Says s.text (link_of s p link)
 link_says s p link = either_says _ (is 100 link) _ _ tt (either_says _ (is 114 link) _ _ tt refl)
 
@@ -53,7 +38,6 @@ parts_say s fs =
     then_says _ (number_or_dash_in 11 (next_field s) (drop 1 fs)) _ (dash_says 11 (next_field s) (drop 1 fs)) (λ p.
     then_says _ (number_in 255 (next_field (next_field s)) (drop 2 fs)) _ (number_says 255 (next_field (next_field s)) (drop 2 fs)) (λ k. tt)))
 
--- a fault of a line says the text that the line stands in
 pub line_says : (s : Spot) (t : ℕ) (fs : List (List ℕ)) → Says s.text (line_of s t fs)
 line_says s t fs =
     either_says _ (is 83 (letter_in fs)) _ _

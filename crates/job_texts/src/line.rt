@@ -6,15 +6,14 @@ ghost use Rattle.job_texts.specs.Lines.{link_of, tie_of, parts_of, judged, stop_
 
 use faults::{FieldWrong, LineFault, LineWrong, Spot};
 use jobs::stops::{Link, Stop, Tie};
+use texts::number::LAST_KIND;
 use texts::reader::Reader;
 
-// The most that a stop, a parent and a kind may be.
+// The most that a stop and a parent may be.
 const LAST_STOP: u64 = 11;
 
-const LAST_KIND: u64 = 255;
-
 // The fields of a stop line: a lone `-` as parent is none, and the link is a letter.
-#[derive(Clone, Copy)]
+#[derive(Clone, Copy, Debug, PartialEq, Eq)]
 pub struct StopLine {
     pub number: u64,
     pub parent: Option<u64>,
@@ -22,93 +21,71 @@ pub struct StopLine {
     pub letter: Option<u8>,
 }
 
-// The tie to a parent by its link's letter.
-fn read_link(at: Spot, parent: u8, letter: Option<u8>) -> Result<Option<Tie>, LineFault>
-    ensures { result ≡ link_of at parent letter }
-{
-    match letter {
-        Some(b) if b == b'd' => Ok(Some(Tie {
-            parent,
-            link: Link::Direct,
-        })),
-        Some(b) if b == b'r' => Ok(Some(Tie {
-            parent,
-            link: Link::Ride,
-        })),
-        _ => Err(at.fault(FieldWrong::WrongLink, 5)),
+impl StopLine {
+    // The fields of a stop line after its letter.
+    fn read(reader: &mut Reader) -> Result<StopLine, LineFault>
+        requires { 3 < length (fields_left reader.old) }
+        ensures value { result ≡ parts_of (spot_of reader.old) (fields_left reader.old) }
+        ensures low { IfOk result (λ l. (l.number ≤ 11) × IfSome l.parent (λ p. p ≤ 11) × (l.kind ≤ 255)) }
+        ensures kept { Kept reader.old reader.new }
+    {
+        Ok(StopLine {
+            number: reader.number(LAST_STOP)?,
+            parent: reader.number_or_dash(LAST_STOP)?,
+            kind: reader.number(LAST_KIND)?,
+            letter: reader.letter(),
+        })
     }
-}
 
-// The root has `-` for its link.
-fn read_root(at: Spot, letter: Option<u8>) -> Result<Option<Tie>, LineFault>
-    ensures { result ≡ tie_of at 0 None letter }
-{
-    match letter {
-        Some(b) if b == b'-' => Ok(None),
-        _ => Err(at.fault(FieldWrong::WrongLink, 5)),
+    // The tie to a parent by its link's letter.
+    fn link(self, at: Spot, parent: u8) -> Result<Option<Tie>, LineFault>
+        ensures { result ≡ link_of at parent self.letter }
+    {
+        let link = match self.letter {
+            Some(b'd') => Link::Direct,
+            Some(b'r') => Link::Ride,
+            _ => return Err(at.fault(FieldWrong::WrongLink, 5)),
+        };
+        Ok(Some(Tie { parent, link }))
     }
-}
 
-// How the stop after `told` others is tied, by its parent field and its link's letter.
-fn read_tie(
-    at: Spot,
-    told: usize,
-    parent: Option<u64>,
-    letter: Option<u8>,
-) -> Result<Option<Tie>, LineFault>
-    requires { IfSome parent (λ p. p ≤ 11) }
-    ensures value { result ≡ tie_of at told parent letter }
-    ensures keeps { IfOk result (λ t. tied told t ≡ true) }
-{
-    match parent {
-        None => {
-            if told != 0 {
-                return Err(at.fault(FieldWrong::WrongParent, 3));
-            }
-            read_root(at, letter)
-        }
-        Some(p) => {
-            if p >= told as u64 {
-                return Err(at.fault(FieldWrong::WrongParent, 3));
-            }
-            read_link(at, p as u8, letter)
+    // The root has `-` for its link.
+    fn root(self, at: Spot) -> Result<Option<Tie>, LineFault>
+        ensures { result ≡ tie_of at 0 None self.letter }
+    {
+        match self.letter {
+            Some(b'-') => Ok(None),
+            _ => Err(at.fault(FieldWrong::WrongLink, 5)),
         }
     }
-}
 
-// The fields of a stop line after its letter.
-fn read_parts(reader: &mut Reader) -> Result<StopLine, LineFault>
-    requires { 3 < length (fields_left reader.old) }
-    ensures value { result ≡ parts_of (spot_of reader.old) (fields_left reader.old) }
-    ensures low { IfOk result (λ l. (l.number ≤ 11) × IfSome l.parent (λ p. p ≤ 11) × (l.kind ≤ 255)) }
-    ensures kept { Kept reader.old reader.new }
-{
-    let number = reader.number(LAST_STOP)?;
-    let parent = reader.number_or_dash(LAST_STOP)?;
-    let kind = reader.number(LAST_KIND)?;
-    let letter = reader.letter();
-    Ok(StopLine {
-        number,
-        parent,
-        kind,
-        letter,
-    })
-}
-
-// The stop that a stop line tells after `told` others.
-fn judge(at: Spot, told: usize, line: StopLine) -> Result<Stop, LineFault>
-    requires { (line.number ≤ 11) × IfSome line.parent (λ p. p ≤ 11) × (line.kind ≤ 255) }
-    ensures value { result ≡ judged at told line }
-    ensures keeps { IfOk result (λ s. (told < 12) × (tied told s.tie ≡ true)) }
-{
-    if line.number != told as u64 {
-        return Err(at.fault(FieldWrong::NotNextStop, 2));
+    // How the stop after `told` others is tied.
+    fn tie(self, at: Spot, told: usize) -> Result<Option<Tie>, LineFault>
+        requires { IfSome self.parent (λ p. p ≤ 11) }
+        ensures value { result ≡ tie_of at told self.parent self.letter }
+        ensures keeps { IfOk result (λ t. tied told t ≡ true) }
+    {
+        match self.parent {
+            None if told == 0 => self.root(at),
+            Some(parent) if parent < told as u64 => self.link(at, parent as u8),
+            _ => Err(at.fault(FieldWrong::WrongParent, 3)),
+        }
     }
-    let tie = read_tie(at, told, line.parent, line.letter)?;
-    Ok(Stop {
-        kind: line.kind as u8,
-        tie,
-    })
+
+    // The stop that the line tells after `told` others.
+    fn stop(self, at: Spot, told: usize) -> Result<Stop, LineFault>
+        requires { (self.number ≤ 11) × IfSome self.parent (λ p. p ≤ 11) × (self.kind ≤ 255) }
+        ensures value { result ≡ judged at told self }
+        ensures keeps { IfOk result (λ s. (told < 12) × (tied told s.tie ≡ true)) }
+    {
+        if self.number != told as u64 {
+            return Err(at.fault(FieldWrong::NotNextStop, 2));
+        }
+        Ok(Stop {
+            kind: self.kind as u8,
+            tie: self.tie(at, told)?,
+        })
+    }
 }
 
 // A stop line after its letter.
@@ -119,8 +96,7 @@ fn read_stop(reader: &mut Reader, told: usize) -> Result<Stop, LineFault>
     ensures kept { Kept reader.old reader.new }
 {
     let at = reader.spot();
-    let line = read_parts(reader)?;
-    judge(at, told, line)
+    StopLine::read(reader)?.stop(at, told)
 }
 
 // The stop that the line at hand tells after `told` others.
@@ -131,7 +107,7 @@ pub fn read_line(reader: &mut Reader, told: usize) -> Result<Stop, LineFault>
 {
     let fields = reader.fields();
     match reader.letter() {
-        Some(b) if b == b'S' => {
+        Some(b'S') => {
             if fields != 5 {
                 return Err(reader.line_fault(LineWrong::FieldCount));
             }

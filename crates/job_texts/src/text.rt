@@ -5,12 +5,13 @@ ghost use Rattle.texts.specs.Rows.{read_rows, read_text};
 ghost use Rattle.job_texts.specs.Texts.{job_lines, read_job, drafted_in, tally};
 
 use crate::line::read_line;
-use faults::{Cause, LineFault, Text, TextFault, TextWrong};
+use faults::{LineFault, Text, TextFault, TextWrong};
 use jobs::job::{Draft, Job};
-use texts::MOST_BYTES;
+use texts::length::check_length;
 use texts::reader::Reader;
 
 // The stops that the lines tell, or the first refused line's fault.
+// A trait for books and jobs, with state, entry and what an entry keeps as members, would be longer than this one loop.
 fn read_rows(text: &[u8]) -> Result<Draft, LineFault>
     ensures { drafted_in result ≡ read_rows job_lines 0 1 (rows text.now) }
 {
@@ -18,9 +19,7 @@ fn read_rows(text: &[u8]) -> Result<Draft, LineFault>
     let mut draft = Draft::new();
     while reader.next_line()? {
         let stop = read_line(&mut reader, draft.len())?;
-        let Ok(()) = draft.push(stop) else {
-            return unreachable();
-        };
+        draft.push(stop).unwrap();
     }
     Ok(draft)
 }
@@ -29,9 +28,7 @@ fn read_rows(text: &[u8]) -> Result<Draft, LineFault>
 fn read_draft(text: &[u8]) -> Result<Draft, TextFault>
     ensures { drafted_in result ≡ read_text job_lines 0 text.now }
 {
-    if text.len() > MOST_BYTES {
-        return Err(TextFault::Job(Cause::Whole(TextWrong::TooLong)));
-    }
+    check_length(Text::Job, text)?;
     Ok(read_rows(text)?)
 }
 
@@ -42,8 +39,6 @@ pub fn read_job(text: &[u8], job: &mut Job) -> Result<usize, TextFault>
     ensures put { MatchResult (read_job text.now) (λ stops. stops_of job.new ≡ stops) (λ _. job.new ≡ job.old) }
 {
     let draft = read_draft(text)?;
-    match job.put(draft) {
-        Ok(stops) => Ok(stops),
-        Err(_) => Err(TextFault::Job(Cause::Whole(TextWrong::NoLines))),
-    }
+    job.put(draft)
+        .map_err(|_| Text::Job.fault(TextWrong::NoLines))
 }

@@ -1,127 +1,114 @@
 -- How a text's cuts step along it.
-use Rattle.std.proofs.Common.{◌≡◌, ℕ, suc, ◌+◌, ◌-◌, ◌<◌, ◌≤◌, Bool, true, false, cond, eqb, List, [], ◌∷◌, map, length, get_or, take, drop, sym, refl, ap, ◌∙◌, ⊎_elim, add-one, arith, length-drop}
-use Rattle.std.proofs.lemmas.List.{at_drop_more, at_drop_all, drop-drop, take_all, take-take, length-take-le}
+use Rattle.std.proofs.Common.{◌≡◌, ℕ, suc, ◌+◌, ◌-◌, ◌<◌, ◌≤◌, Bool, true, false, not, cond, eqb, ltb, List, [], ◌∷◌, map, length, take, drop, Some, None, Option, MatchOption, Bor, sym, refl, ◌⊎◌, ap, ◌∙◌, ⊎_elim, add-one, arith, length-drop}
+use Rattle.std.specs.List.{position, position_or_len, onto_first}
+use Rattle.std.specs.Option.{unwrap_or}
+use Rattle.std.proofs.lemmas.List.{drop-drop, take_all, length-take-le}
+use Rattle.std.proofs.lemmas.List.Splits.{slice_split_first}
 use Rattle.std.proofs.lemmas.Slice.{between_is}
-use Rattle.std.proofs.lemmas.Bool.{eq-eqb, ne_eqb, cond-true, cond-false, cond_both, cases_lt, le-leb, lt-leb}
-use Rattle.texts.specs.Cut.{before, lines, onto, fields, grow, row_of, rows, fields_from}
+use Rattle.std.proofs.lemmas.Bool.{cond-true, cond-false, cases_lt, le-leb, lt-leb, ltb-true, ltb-false}
+use Rattle.texts.specs.Cut.{lines, onto, fields, row_of, rows, fields_from}
 
-pub before_more : (b : ℕ) (xs : List ℕ) (i : ℕ) → i < length xs → (get_or xs i 0 ≡ b → ⊥) → before b (drop i xs) ≡ 1 + before b (drop (i + 1) xs)
-before_more b xs i h ne = at_drop_more (before b) xs i 0 h ∙ cond-false _ _ _ (ne_eqb _ _ ne) ∙ omega arith
+found : (t : Bool) (k n : ℕ) → Some n ≡ cond t (Some k) None → (t ≡ true) × (n ≡ k)
+found true k n e = (refl, cc)
+found false k n e = cc
 
-pub before_stop : (b : ℕ) (xs : List ℕ) (i : ℕ) → i < length xs → get_or xs i 0 ≡ b → before b (drop i xs) ≡ 0
-before_stop b xs i h e = at_drop_more (before b) xs i 0 h ∙ cond-true _ _ _ (eq-eqb _ _ e)
+missed : (t : Bool) (k : ℕ) → None ≡ cond t (Some k) None → t ≡ false
+missed true k e = cc
+missed false k e = refl
 
-pub before_end : (b : ℕ) (xs : List ℕ) (i : ℕ) → length xs ≤ i → before b (drop i xs) ≡ 0
-before_end b xs i h = at_drop_all (before b) xs i h
+-- where `position` found byte b, or that it did not
+pub found_at : (b n : ℕ) (xs : List ℕ) → Some n ≡ position (λ x. eqb x b) xs → (n < length xs) × (n ≡ position_or_len (λ x. eqb x b) xs)
+found_at b n xs e =
+    let at = found (ltb (position_or_len (λ x. eqb x b) xs) (length xs)) (position_or_len (λ x. eqb x b) xs) n e in
+    (omega (arith, ltb-true _ _ at.0, at.1), at.1)
 
-closed_step : (t : Bool) (x : ℕ) (xs : List ℕ) → (before 10 xs < length xs → lines xs ≡ (take (before 10 xs) xs, true) ∷ lines (drop (before 10 xs + 1) xs)) → cond t 0 (suc (before 10 xs)) < suc (length xs) → cond t (([], true) ∷ lines xs) (onto x (lines xs)) ≡ (take (cond t 0 (suc (before 10 xs))) (x ∷ xs), true) ∷ lines (drop (cond t 0 (suc (before 10 xs)) + 1) (x ∷ xs))
+pub not_found : (b : ℕ) (xs : List ℕ) → None ≡ position (λ x. eqb x b) xs → length xs ≤ position_or_len (λ x. eqb x b) xs
+not_found b xs e = ltb-false _ _ (missed (ltb (position_or_len (λ x. eqb x b) xs) (length xs)) (position_or_len (λ x. eqb x b) xs) e)
+
+abbrev ends : List ℕ → ℕ
+ends xs = position_or_len (λ x. eqb x 10) xs
+
+closed_step : (t : Bool) (x : ℕ) (xs : List ℕ) → (ends xs < length xs → lines xs ≡ (take (ends xs) xs, true) ∷ lines (drop (ends xs + 1) xs)) → cond (not t) (1 + ends xs) 0 < suc (length xs) → cond t (([], true) ∷ lines xs) (onto x (lines xs)) ≡ (take (cond (not t) (1 + ends xs) 0) (x ∷ xs), true) ∷ lines (drop (cond (not t) (1 + ends xs) 0 + 1) (x ∷ xs))
 closed_step true x xs ih h = refl
-closed_step false x xs ih h = rw (ih (omega arith)) (simp add-one)
+closed_step false x xs ih h = let e : 1 + ends xs ≡ suc (ends xs) = omega arith in rw (ih (omega arith), e) (simp add-one)
 
-pub lines_closed : (xs : List ℕ) → before 10 xs < length xs → lines xs ≡ (take (before 10 xs) xs, true) ∷ lines (drop (before 10 xs + 1) xs)
+lines_closed : (xs : List ℕ) → ends xs < length xs → lines xs ≡ (take (ends xs) xs, true) ∷ lines (drop (ends xs + 1) xs)
 lines_closed [] h = absurd (omega arith)
 lines_closed (x ∷ xs) h = closed_step (eqb x 10) x xs (lines_closed xs) h
 
 -- what the last part of a text gives that has no end
-open_step : (t : Bool) (x : ℕ) (xs : List ℕ) → (0 < length xs → length xs ≤ before 10 xs → lines xs ≡ (xs, false) ∷ []) → suc (length xs) ≤ cond t 0 (suc (before 10 xs)) → cond t (([], true) ∷ lines xs) (onto x (lines xs)) ≡ (x ∷ xs, false) ∷ []
+open_step : (t : Bool) (x : ℕ) (xs : List ℕ) → (0 < length xs → length xs ≤ ends xs → lines xs ≡ (xs, false) ∷ []) → suc (length xs) ≤ cond (not t) (1 + ends xs) 0 → cond t (([], true) ∷ lines xs) (onto x (lines xs)) ≡ (x ∷ xs, false) ∷ []
 open_step true x xs ih h = absurd (omega arith)
 open_step false x [] ih h = refl
 open_step false x (y ∷ xs) ih h = ap (onto x) (ih (omega arith) (omega arith))
 
-pub lines_open : (xs : List ℕ) → 0 < length xs → length xs ≤ before 10 xs → lines xs ≡ (xs, false) ∷ []
+lines_open : (xs : List ℕ) → 0 < length xs → length xs ≤ ends xs → lines xs ≡ (xs, false) ∷ []
 lines_open [] h k = absurd (omega arith)
 lines_open (x ∷ xs) h k = open_step (eqb x 10) x xs (lines_open xs) k
 
-pub before_le : (b : ℕ) (xs : List ℕ) → before b xs ≤ length xs
-before_le b [] = omega arith
-before_le b (x ∷ xs) = cond_both (eqb x b) 0 (suc (before b xs)) (λ n. n ≤ suc (length xs)) (λ _. omega arith) (λ _. omega (arith, before_le b xs))
-
--- no row is left at the end of a text
-pub rows_none : (t : List ℕ) (p : ℕ) → length t ≤ p → rows (drop p t) ≡ []
-rows_none t p h = at_drop_all rows t p h
-
--- the line from p on, which ends at e
-pub rows_closed : (t : List ℕ) (p e : ℕ) → p < length t → e ≡ p + before 10 (drop p t) → e < length t → rows (drop p t) ≡ (fields (take (e - p) (drop p t)), true) ∷ rows (drop (e + 1) t)
-rows_closed t p e h is lt =
-    let long = length-drop p t in
-    let k : e - p ≡ before 10 (drop p t) = omega arith in
-    let m : e + 1 ≡ p + (before 10 (drop p t) + 1) = omega arith in
-    rw (k, m, sym (drop-drop (before 10 (drop p t) + 1) p t)) (ap (map row_of) (lines_closed (drop p t) (omega arith)))
-
--- the last line, which has no end
-pub rows_open : (t : List ℕ) (p e : ℕ) → p < length t → e ≡ p + before 10 (drop p t) → length t ≤ e → rows (drop p t) ≡ (fields (drop p t), false) ∷ []
-rows_open t p e h is ge =
-    let long = length-drop p t in
-    ap (map row_of) (lines_open (drop p t) (omega arith) (omega arith))
-
-parted_step : (t : Bool) (x : ℕ) (xs : List ℕ) → (before 9 xs < length xs → fields xs ≡ take (before 9 xs) xs ∷ fields (drop (before 9 xs + 1) xs)) → cond t 0 (suc (before 9 xs)) < suc (length xs) → cond t ([] ∷ fields xs) (grow x (fields xs)) ≡ take (cond t 0 (suc (before 9 xs))) (x ∷ xs) ∷ fields (drop (cond t 0 (suc (before 9 xs)) + 1) (x ∷ xs))
-parted_step true x xs ih h = refl
-parted_step false x xs ih h = rw (ih (omega arith)) (simp add-one)
-
-pub fields_parted : (xs : List ℕ) → before 9 xs < length xs → fields xs ≡ take (before 9 xs) xs ∷ fields (drop (before 9 xs + 1) xs)
-fields_parted [] h = absurd (omega arith)
-fields_parted (x ∷ xs) h = parted_step (eqb x 9) x xs (fields_parted xs) h
-
-last_step : (t : Bool) (x : ℕ) (xs : List ℕ) → (length xs ≤ before 9 xs → fields xs ≡ xs ∷ []) → suc (length xs) ≤ cond t 0 (suc (before 9 xs)) → cond t ([] ∷ fields xs) (grow x (fields xs)) ≡ (x ∷ xs) ∷ []
-last_step true x xs ih h = absurd (omega arith)
-last_step false x xs ih h = ap (grow x) (ih (omega arith))
-
-pub fields_last : (xs : List ℕ) → length xs ≤ before 9 xs → fields xs ≡ xs ∷ []
-fields_last [] h = refl
-fields_last (x ∷ xs) h = last_step (eqb x 9) x xs (fields_last xs) h
-
-pub fields_none : (t : List ℕ) (p : ℕ) → length t < p → fields_from t p ≡ []
+fields_none : (t : List ℕ) (p : ℕ) → length t < p → fields_from t p ≡ []
 fields_none t p h = cond-false _ _ _ (lt-leb p (length t) h)
 
-pub fields_some : (t : List ℕ) (p : ℕ) → p ≤ length t → fields_from t p ≡ fields (drop p t)
+fields_some : (t : List ℕ) (p : ℕ) → p ≤ length t → fields_from t p ≡ fields (drop p t)
 fields_some t p h = cond-true _ _ _ (le-leb p (length t) h)
-
-pub fields_from_lem : (t : List ℕ) (p e : ℕ) → p ≤ length t → e ≡ p + before 9 (drop p t) → fields_from t p ≡ take (e - p) (drop p t) ∷ fields_from t (e + 1)
-fields_from_lem t p e h is =
-    let long = length-drop p t in
-    let k : e - p ≡ before 9 (drop p t) = omega arith in
-    let m : e + 1 ≡ p + (before 9 (drop p t) + 1) = omega arith in
-    ⊎_elim
-    (λ lt. fields_some t p h ∙ rw (k, fields_some t (e + 1) (omega arith), m, sym (drop-drop (before 9 (drop p t) + 1) p t)) (fields_parted (drop p t) (omega arith)))
-    (λ ge. fields_some t p h ∙ rw (k, fields_none t (e + 1) (omega arith), take_all (before 9 (drop p t)) (drop p t) (omega arith)) (fields_last (drop p t) (omega arith)))
-    (cases_lt e (length t))
-
-length_grow : (x : ℕ) (fs : List (List ℕ)) → 0 < length fs → length (grow x fs) ≡ length fs
-length_grow x [] h = absurd (omega arith)
-length_grow x (f ∷ fs) h = refl
-
-pub fields_some_left : (xs : List ℕ) → 0 < length (fields xs)
-fields_some_left [] = omega arith
-fields_some_left (x ∷ xs) = cond_both (eqb x 9) ([] ∷ fields xs) (grow x (fields xs)) (λ fs. 0 < length fs) (λ _. omega arith) (λ _. omega (arith, length_grow x (fields xs) (fields_some_left xs), fields_some_left xs))
-
-pub count_tab : (xs : List ℕ) (i : ℕ) → i < length xs → get_or xs i 0 ≡ 9 → length (fields (drop i xs)) ≡ length (fields (drop (i + 1) xs)) + 1
-count_tab xs i h e = ap length (at_drop_more fields xs i 0 h ∙ cond-true _ _ _ (eq-eqb _ _ e)) ∙ omega arith
-
-pub count_other : (xs : List ℕ) (i : ℕ) → i < length xs → (get_or xs i 0 ≡ 9 → ⊥) → length (fields (drop i xs)) ≡ length (fields (drop (i + 1) xs))
-count_other xs i h ne = ap length (at_drop_more fields xs i 0 h ∙ cond-false _ _ _ (ne_eqb _ _ ne)) ∙ length_grow _ _ (fields_some_left (drop (i + 1) xs))
-
-pub count_end : (xs : List ℕ) (i : ℕ) → length xs ≤ i → length (fields (drop i xs)) ≡ 1
-count_end xs i h = ap length (at_drop_all fields xs i h)
-
--- a field of the line that ends at `end`, as a stretch of the text
-part_same : (t : List ℕ) (p end stop : ℕ) → stop ≤ end → take (stop - p) (drop p (take end t)) ≡ take (stop - p) (drop p t)
-part_same t p end stop h = rw (sym (between_is t p end)) (take-take (stop - p) (end - p) (drop p t) (omega arith))
-
-pub field_step : (t : List ℕ) (p end stop : ℕ) → p ≤ end → end ≤ length t → stop ≤ length (take (end - 0) t) → stop ≡ p + before 9 (drop p (take (end - 0) t)) → fields_from (take end t) p ≡ take (stop - p) (drop p t) ∷ fields_from (take end t) (stop + 1)
-field_step t p end stop h k s is =
-    let e : end - 0 ≡ end = omega arith in
-    let long : length (take end t) ≡ end = length-take-le end t k in
-    let s' : stop ≤ length (take end t) = rw e at s in
-    let is' : stop ≡ p + before 9 (drop p (take end t)) = rw e at is in
-    fields_from_lem (take end t) p stop (omega arith) is' ∙ rw (part_same t p end stop (omega arith))
-
-pub stretch_is : (t part : List ℕ) (p stop : ℕ) → part ≡ take (stop - p) (drop p t) → p ≤ stop → stop ≤ length t → (part ≡ take (length part) (drop p t)) × (length part ≡ stop - p)
-stretch_is t part p stop e h k =
-    let long : length part ≡ stop - p = ap length e ∙ length-take-le (stop - p) (drop p t) (omega (arith, length-drop p t)) in
-    (rw long e, long)
 
 -- the fields of the line from p to e
 pub line_fields : (t : List ℕ) (p e : ℕ) → p ≤ e → e ≤ length t → fields_from (take e t) p ≡ fields (take (e - p) (drop p t))
 line_fields t p e h k =
     let long : length (take e t) ≡ e = length-take-le e t k in
     fields_some (take e t) p (omega arith) ∙ ap fields (sym (between_is t p e))
+
+-- past the line that ends at e stands no field
+pub line_past : (t : List ℕ) (p e : ℕ) → e < p → e ≤ length t → fields_from (take e t) p ≡ []
+line_past t p e h k = fields_none (take e t) p (omega (arith, length-take-le e t k))
+
+-- the fields from the place k of that line on
+pub line_on : (t : List ℕ) (p e k q : ℕ) → p ≤ e → e ≤ length t → q ≡ p + k → fields_from (take (e - p) (drop p t)) k ≡ fields_from (take e t) q
+line_on t p e k q h l is =
+    let long : length (take (e - p) (drop p t)) ≡ e - p = length-take-le (e - p) (drop p t) (omega (arith, length-drop p t)) in
+    let whole : length (take e t) ≡ e = length-take-le e t l in
+    rw is (⊎_elim
+    (λ lt. fields_none (take (e - p) (drop p t)) k (omega arith) ∙ sym (fields_none (take e t) (p + k) (omega arith)))
+    (λ ge. fields_some (take (e - p) (drop p t)) k (omega arith) ∙ ap (λ xs. fields (drop k xs)) (between_is t p e) ∙ ap fields (drop-drop k p (take e t)) ∙ sym (fields_some (take e t) (p + k) (omega arith)))
+    (cases_lt (e - p) k))
+
+whole_rest : (t : List ℕ) (p : ℕ) → take (length t - p) (drop p t) ≡ drop p t
+whole_rest t p = take_all (length t - p) (drop p t) (omega (arith, length-drop p t))
+
+-- the line from p on, whose end stands at n in the rest
+pub line_closed : (t : List ℕ) (p n : ℕ) → p ≤ length t → Some n ≡ position (λ x. eqb x 10) (take (length t - p) (drop p t)) → (p ≤ p + n) × (p + n < length t) × (rows (drop p t) ≡ (fields_from (take (p + n) t) p, true) ∷ rows (drop (p + n + 1) t))
+line_closed t p n low is =
+    let at = found_at 10 n (drop p t) (rw whole_rest at is) in
+    let k : p + n - p ≡ n = omega arith in
+    let m : p + n + 1 ≡ p + (n + 1) = omega arith in
+    let lt : p + n < length t = omega (arith, at.0, length-drop p t) in
+    let here : lines (drop p t) ≡ (take n (drop p t), true) ∷ lines (drop (n + 1) (drop p t)) = rw at.1 (lines_closed (drop p t) (omega (arith, at.0, at.1))) in
+    (omega arith, lt, ap (map row_of) here ∙ rw (line_fields t p (p + n) (omega arith) (omega arith), k, m, sym (drop-drop (n + 1) p t)) refl)
+
+-- the last line, which has no end
+pub line_open : (t : List ℕ) (p : ℕ) → None ≡ position (λ x. eqb x 10) (take (length t - p) (drop p t)) → p < length t → rows (drop p t) ≡ (fields (drop p t), false) ∷ []
+line_open t p is lt = ap (map row_of) (lines_open (drop p t) (omega (arith, length-drop p t)) (not_found 10 (drop p t) (rw whole_rest at is)))
+
+-- the line that ends at e from p on, as `get` gives it
+pub rest_is : (t : List ℕ) (p e : ℕ) (o : Option (Bor (List ℕ))) → e ≤ length t → MatchOption o ((e < p) ⊎ (length t < e)) (λ x. (p ≤ e) × (e ≤ length t) × (x.now ≡ take (e - p) (drop p t)) × (length x.now + p ≡ e)) → MatchOption o (fields_from (take e t) p ≡ []) (λ x. (fields_from (take e t) p ≡ fields x.now) × (x.now ≡ take (e - p) (drop p t)) × (p + length x.now ≡ e))
+rest_is t p e (Some x) h w = (line_fields t p e w.0 h ∙ ap fields (sym w.2), w.2, omega (arith, w.3))
+rest_is t p e None h w = line_past t p e (⊎_elim (λ l. l) (λ l. absurd (omega arith)) w) h
+
+-- a line without byte 9 is one field
+last_step : (t : Bool) (x : ℕ) (xs : List ℕ) → (length xs ≤ position_or_len (λ y. eqb y 9) xs → fields xs ≡ xs ∷ []) → suc (length xs) ≤ cond (not t) (1 + position_or_len (λ y. eqb y 9) xs) 0 → cond t ([] ∷ fields xs) (onto_first x (fields xs)) ≡ (x ∷ xs) ∷ []
+last_step true x xs ih h = absurd (omega arith)
+last_step false x xs ih h = ap (onto_first x) (ih (omega arith))
+
+one_part : (xs : List ℕ) → length xs ≤ position_or_len (λ y. eqb y 9) xs → fields xs ≡ xs ∷ []
+one_part [] h = refl
+one_part (x ∷ xs) h = last_step (eqb x 9) x xs (one_part xs) h
+
+-- the first field of a line ends at its first byte 9, or with the line
+pub first_part : (xs : List ℕ) (n : ℕ) (o : Option ℕ) → o ≡ position (λ x. eqb x 9) xs → n ≡ unwrap_or o (length xs) → fields xs ≡ take n xs ∷ fields_from xs (n + 1)
+first_part xs n (Some k) e is =
+    let at = found_at 9 k xs e in
+    let n' : n ≡ position_or_len (λ x. eqb x 9) xs = is ∙ at.1 in
+    rw (n', fields_some xs (position_or_len (λ x. eqb x 9) xs + 1) (omega (arith, at.0, at.1))) (slice_split_first (λ x. eqb x 9) xs 0 (omega (arith, at.0, at.1)))
+first_part xs n None e is =
+    let n' : n ≡ length xs = is in
+    rw (n', fields_none xs (length xs + 1) (omega arith), take_all (length xs) xs (omega arith)) (one_part xs (not_found 9 xs e))

@@ -1,5 +1,4 @@
 pub mod Cuts
-pub mod Values
 pub mod Says
 pub mod Steps
 pub mod Gives

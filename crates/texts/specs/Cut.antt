@@ -1,5 +1,6 @@
 -- How a text is cut into lines and a line into fields.
-use Rattle.std.specs.Prelude.{ℕ, suc, Bool, true, false, cond, List, [], ◌∷◌, map, length, drop, ◌==◌, nat_le}
+use Rattle.std.specs.Prelude.{ℕ, Bool, true, false, cond, List, [], ◌∷◌, map, length, drop, ◌==◌, nat_le}
+use Rattle.std.specs.List.{slice_split}
 
 -- a line: its bytes without the end, and whether the end is there
 abbrev pub Line : Type 0
@@ -14,14 +15,9 @@ abbrev pub lines : List ℕ → List Line
 lines [] = []
 lines (x ∷ xs) = cond (x == 10) (([], true) ∷ lines xs) (onto x (lines xs))
 
-abbrev pub grow : ℕ → List (List ℕ) → List (List ℕ)
-grow x [] = (x ∷ []) ∷ []
-grow x (f ∷ fs) = (x ∷ f) ∷ fs
-
 -- the fields of a line, parted by byte 9
 abbrev pub fields : List ℕ → List (List ℕ)
-fields [] = [] ∷ []
-fields (x ∷ xs) = cond (x == 9) ([] ∷ fields xs) (grow x (fields xs))
+fields xs = slice_split (λ x. x == 9) xs
 
 -- a row: the fields of a line, and whether its end is there
 abbrev pub Row : Type 0
@@ -37,8 +33,3 @@ rows t = map row_of (lines t)
 -- the fields of a line from its byte p on; none past its end
 abbrev pub fields_from : List ℕ → ℕ → List (List ℕ)
 fields_from t p = cond (nat_le p (length t)) (fields (drop p t)) []
-
--- how many bytes stand before the first b, or how many there are
-abbrev pub before : ℕ → List ℕ → ℕ
-before b [] = 0
-before b (x ∷ xs) = cond (x == b) 0 (suc (before b xs))

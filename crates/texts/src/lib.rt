@@ -1,7 +1,7 @@
 #![tactic(auto)]
 
+pub mod length;
 pub mod number;
 pub mod reader;
 
-// The most bytes that a text may have.
-pub const MOST_BYTES: usize = 65535;
+pub use length::MOST_BYTES;

@@ -5,7 +5,7 @@ use faults::Text;
 mod steps;
 
 // A field as it is handed out: that part of the text, never a copy, with where it starts.
-#[derive(Clone, Copy)]
+#[derive(Clone, Copy, Debug, PartialEq, Eq)]
 pub enum Token<'a> {
     Word { part: &'a [u8], start: usize },
     Dash { part: &'a [u8], start: usize },

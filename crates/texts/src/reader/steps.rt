@@ -1,5 +1,5 @@
-ghost use Rattle.std.specs.Prelude.{◌≡◌, ◌+◌, ◌-◌, ◌<◌, ◌≤◌, true, false, [], ◌∷◌, length, take, drop, IfSome, IfOk, MatchOption};
-ghost use Rattle.texts.specs.Cut.{before, rows, fields, fields_from};
+ghost use Rattle.std.specs.Prelude.{◌≡◌, ◌==◌, ◌+◌, ◌-◌, ◌<◌, ◌≤◌, true, false, [], ◌∷◌, length, take, drop, position, IfSome, IfOk, MatchOption};
+ghost use Rattle.texts.specs.Cut.{rows, fields, fields_from};
 ghost use Rattle.faults.specs.declared.LineFault.TheVariants.{Field};
 ghost use Rattle.faults.specs.Faults.{spot as spotAt, line_fault, field_fault};
 ghost use Rattle.texts.specs.Numbers.{letter_in, number_in, number_or_dash_in};
@@ -10,89 +10,55 @@ use crate::number::number;
 use crate::reader::{Reader, Token};
 use faults::{FieldWrong, LineFault, LineWrong, Spot, Text};
 
-// Where the first `b` at or after `from` stands, or the end.
-fn find(a: &[u8], from: usize, b: u8) -> usize
-    requires { from ≤ length a.now }
-    ensures value { result ≡ from + before b (drop from a.now) }
-    ensures high { result ≤ length a.now }
+// How many bytes stand before the first `b`, if there is one.
+fn before(part: &[u8], b: u8) -> Option<usize>
+    ensures { result ≡ position (λ x. x == b) part.now }
 {
-    let mut n = from;
-    while n < a.len() && a[n] != b {
-        n += 1;
-    }
-    n
+    part.iter().position(|byte| *byte == b)
 }
 
-// Where the line that starts at `start` ends: at its closing byte, or with the text.
-fn line_end(text: &[u8], start: usize) -> usize
+// Where the line that starts at `start` ends, or none where its end is missing.
+fn line_end(text: &[u8], start: usize) -> Option<usize>
     requires { start ≤ length text.now }
-    ensures none { length text.now ≤ start → rows (drop start text.now) ≡ [] }
-    ensures closed { result < length text.now → rows (drop start text.now) ≡ (fields_from (take result text.now) start, true) ∷ rows (drop (result + 1) text.now) }
-    ensures unended { start < length text.now → length text.now ≤ result → rows (drop start text.now) ≡ (fields (drop start text.now), false) ∷ [] }
-    ensures high { (start ≤ result) × (result ≤ length text.now) }
+    ensures { MatchOption result (start < length text.now → rows (drop start text.now) ≡ (fields (drop start text.now), false) ∷ []) (λ end. (start ≤ end) × (end < length text.now) × (rows (drop start text.now) ≡ (fields_from (take end text.now) start, true) ∷ rows (drop (end + 1) text.now))) }
 {
-    find(text, start, b'\n')
-}
-
-// Where the field that starts at `start` ends, in the line that ends at `end`.
-fn field_end(text: &[u8], start: usize, end: usize) -> usize
-    requires { (start ≤ end) × (end ≤ length text.now) }
-    ensures field { fields_from (take end text.now) start ≡ take (result - start) (drop start text.now) ∷ fields_from (take end text.now) (result + 1) }
-    ensures high { (start ≤ result) × (result ≤ end) }
-{
-    find(&text[0..end], start, b'\t')
+    let length = before(&text[start..], b'\n')?;
+    Some(start + length)
 }
 
 // How many fields a line has.
 fn count_fields(line: &[u8]) -> usize
     ensures { result ≡ length (fields line.now) }
 {
-    let mut n = 1;
-    for b in line {
-        if *b == b'\t' {
-            n += 1;
-        }
-    }
-    n
+    line.split(|b| *b == b'\t').count()
 }
 
-// How many fields stand from `start` on, in the line that ends at `end`.
-fn count_between(text: &[u8], start: usize, end: usize) -> usize
-    requires { (start ≤ end + 1) × (end ≤ length text.now) }
-    ensures { result ≡ length (fields_from (take end text.now) start) }
+// How many bytes the first field of a line has.
+fn first_field(line: &[u8]) -> usize
+    ensures field { fields line.now ≡ take result line.now ∷ fields_from line.now (result + 1) }
+    ensures high { result ≤ length line.now }
 {
-    if start > end {
-        return 0;
-    }
-    count_fields(&text[start..end])
-}
-
-// A field as a dash, a number or a word.
-fn sorted(part: &[u8], start: usize) -> Token<'_>
-    ensures { (part_of result ≡ part.now) × (start_of result ≡ start) × Sorted result }
-{
-    if part.is_empty() {
-        return Token::Word { part, start };
-    }
-    let first = part[0];
-    if first == b'-' && part.len() == 1 {
-        return Token::Dash { part, start };
-    }
-    if first >= b'0' && first <= b'9' {
-        return Token::Number { part, start };
-    }
-    Token::Word { part, start }
+    before(line, b'\t').unwrap_or(line.len())
 }
 
 impl<'a> Token<'a> {
+    // A field as a dash, a number or a word.
+    fn new(part: &'a [u8], start: usize) -> Token<'a>
+        ensures { (part_of result ≡ part.now) × (start_of result ≡ start) × Sorted result }
+    {
+        match part {
+            [b'-'] => Token::Dash { part, start },
+            [b'0'..=b'9', ..] => Token::Number { part, start },
+            _ => Token::Word { part, start },
+        }
+    }
+
     // The bytes of the field.
     pub fn part(self) -> &'a [u8]
         ensures { result.now ≡ part_of self.entry }
     {
         match self {
-            Token::Word { part, start: _ } => part,
-            Token::Dash { part, start: _ } => part,
-            Token::Number { part, start: _ } => part,
+            Self::Word { part, .. } | Self::Dash { part, .. } | Self::Number { part, .. } => part,
         }
     }
 
@@ -101,9 +67,8 @@ impl<'a> Token<'a> {
         ensures { result ≡ start_of self.entry }
     {
         match self {
-            Token::Word { part: _, start } => start,
-            Token::Dash { part: _, start } => start,
-            Token::Number { part: _, start } => start,
+            Self::Word { start, .. } | Self::Dash { start, .. } | Self::Number { start, .. } =>
+                start,
         }
     }
 }
@@ -140,21 +105,17 @@ impl<'a> Reader<'a> {
         ensures { LineStep self.old self.new result }
     {
         let start = self.next;
-        let end = line_end(self.text, start);
         if start >= self.text.len() {
             return Ok(false);
         }
         let line = self.line + 1;
-        if end >= self.text.len() {
-            return Err(LineFault::Whole {
-                wrong: LineWrong::Unended,
-                at: Spot {
-                    text: self.which,
-                    line,
-                    field: 0,
-                },
-            });
-        }
+        let Some(end) = line_end(self.text, start) else {
+            return Err(Spot {
+                line,
+                ..self.spot()
+            }
+            .line_fault(LineWrong::Unended));
+        };
         self.next = end + 1;
         self.pos = start;
         self.end = end;
@@ -163,40 +124,39 @@ impl<'a> Reader<'a> {
         Ok(true)
     }
 
+    // The bytes of the line at hand from the next field on, or none past the last field.
+    fn rest(&self) -> Option<&'a [u8]>
+        ensures { MatchOption result (fields_left self.now ≡ []) (λ rest. (fields_left self.now ≡ fields rest.now) × (rest.now ≡ take (self.now.end - self.now.pos) (drop self.now.pos self.now.text.now)) × (self.now.pos + length rest.now ≡ self.now.end)) }
+    {
+        self.text.get(self.pos..self.end)
+    }
+
+    #[tactic(auto, using(crate::proofs::Cuts::line_on))]
     // The next field of the line at hand, or none past the last.
     pub fn next_field(&mut self) -> Option<Token<'a>>
         ensures left { MatchOption result ((fields_left self.old ≡ []) × (self.new ≡ self.old)) (λ t. FieldStep self.old self.new (part_of t)) }
         ensures part { IfSome result (λ t. (start_of t ≡ self.old.pos) × (part_of t ≡ take (length (part_of t)) (drop (start_of t) self.old.text.now)) × Sorted t) }
     {
-        let at = self.pos;
-        let end = self.end;
-        if at > end {
-            return None;
-        }
-        let stop = field_end(self.text, at, end);
-        let token = sorted(&self.text[at..stop], at);
-        self.pos = stop + 1;
+        let rest = self.rest()?;
+        let start = self.pos;
+        let length = first_field(rest);
+        self.pos = start + length + 1;
         self.field += 1;
-        Some(token)
+        Some(Token::new(&rest[..length], start))
     }
 
     // How many fields of the line at hand are left.
     pub fn fields(&self) -> usize
         ensures { result ≡ length (fields_left self.now) }
     {
-        count_between(self.text, self.pos, self.end)
+        self.rest().map_or(0, count_fields)
     }
 
     // What is wrong with the line at hand as a whole.
     pub fn line_fault(&self, wrong: LineWrong) -> LineFault
         ensures { result ≡ line_fault wrong self.now.which self.now.line }
     {
-        let at = Spot {
-            text: self.which,
-            line: self.line,
-            field: 0,
-        };
-        LineFault::Whole { wrong, at }
+        self.spot().line_fault(wrong)
     }
 
     // What is wrong with one field of the line at hand.
@@ -211,9 +171,10 @@ impl<'a> Reader<'a> {
         ensures value { result ≡ letter_in (fields_left self.old) }
         ensures moved { Moved self.old self.new }
     {
-        let token = self.next_field()?;
-        let part = token.part();
-        if part.len() == 1 { Some(part[0]) } else { None }
+        match self.next_field()?.part() {
+            [b] => Some(*b),
+            _ => None,
+        }
     }
 
     // The number in the next field, at most `bound`.

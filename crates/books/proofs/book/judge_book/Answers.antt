@@ -8,14 +8,17 @@ use Rattle.books.proofs.Keeping.{book_sensible}
 use Rattle.books.proofs.Passes.{tallied}
 use Rattle.books.proofs.book.judge_book.Goals as goal
 
-pub returns-in_err-judge : goal.returns-in_err-judge
-returns-in_err-judge c =
+pub returns-in_err-judge-clause-value : goal.returns-in_err-judge-clause-value
+returns-in_err-judge-clause-value c =
     let g = book_lines c.args.room in
     let bad = refused_is g (counts 0 0) (read_rows g (counts 0 0) 1 (rows c.args.text.now)) c.in_err-judge.field-0.0 c.in_err-judge.ensures.value in
     let said = turned g (line_says c.args.room) (counts 0 0) 1 (rows c.args.text.now) c.in_err-judge.field-0.0 bad in
-    record { within = search rules; value = search rules; sensible = book_sensible c.args.room c.args.text.now }
+    search rules
 
-pub returns : goal.returns
-returns c =
+pub returns-clause-value : goal.returns-clause-value
+returns-clause-value c =
     let told = tallied c.args.room (read_rows (book_lines c.args.room) (counts 0 0) 1 (rows c.args.text.now)) in
-    record { within = search rules; value = search rules; sensible = book_sensible c.args.room c.args.text.now }
+    search rules
+
+pub returns-clause-sensible : goal.returns-clause-sensible
+returns-clause-sensible c = book_sensible c.args.room c.args.text.now
