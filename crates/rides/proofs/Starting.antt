@@ -1,5 +1,5 @@
 -- The table at the start, pair by pair, and the rides at the end.
-use Rattle.std.proofs.Common.{◌≡◌, ℕ, ◌+◌, ◌*◌, ◌<◌, ◌≤◌, List, length, Some, None, Option, sym, refl, ap, ◌∙◌, subst, inl, ⊎_elim, arith}
+use Rattle.std.proofs.Common.{◌≡◌, ℕ, ◌+◌, ◌*◌, ◌<◌, ◌≤◌, List, length, Option, Ok, Err, sym, refl, ◌∙◌, subst, inl, ⊎_elim, arith}
 use Rattle.measures.specs.Meaning.{MeasureMeaning}
 use Rattle.measures.specs.Laws.{Laws}
 use Rattle.streets.specs.Meaning.{StreetMeaning, Sound}
@@ -10,6 +10,7 @@ use Rattle.std.proofs.lemmas.Bool.{cases_lt, cases_eq}
 use Rattle.tables.specs.Tables.{leg_in, ride_in, kind_in}
 use Rattle.cells.specs.declared.cell.Cell.{Cell}
 use Rattle.rides.specs.Cells.{Fills}
+use Rattle.rides.specs.declared.table.TooFewCells.{TooFewCells}
 use Rattle.rides.specs.Rounds.{Written, KindWritten, Behind, SameKinds, RidesOnly, Passed, Started, Full}
 use Rattle.rides.proofs.Rounding.{next_row, none_passed, passed_more, by_entry}
 
@@ -58,28 +59,22 @@ abbrev pub Done : {M V : Type 0} → MeasureMeaning V → StreetMeaning → ℕ 
 Done m s n old started new = Started m s n n 0 started × Behind n old started × RidesOnly n started new × Full m s n n (ride_in new n)
 
 pub done_fills : {M V : Type 0} (m : MeasureMeaning V) → Laws m.nought m.joined m.before → (s : StreetMeaning) → Sound s → (n : ℕ) (old started new : List (Cell M V)) → n ≡ s.places →
-    n * n ≤ length old → Done m s n old started new → Fills m s (Some n) old new
+    n * n ≤ length old → Done m s n old started new → Fills m s (Ok n) old new
 done_fills m laws s sound n old started new e room done = record {
-  filled = λ _. (
-    ap {B = Option ℕ} Some e,
+  told = (
+    e,
+    subst (λ (k : ℕ). k * k ≤ length old) e room,
     record {
       legs = λ a b ha hb. d.2.0 a b ∙ d.0.legs a b ha hb (inl ha);
       rides = λ a b ha hb. best_ride m laws s sound a b _ (d.3 a b ha hb);
       kinds = λ p h. d.2.1 p ∙ d.0.kinds p h;
     },
   );
-  refused = λ less. absurd (let r : s.places * s.places ≤ length old = subst (λ (k : ℕ). k * k ≤ length old) e room in omega arith);
   behind = d.2.2 ∙ d.1;
 } where
   d : Done m s s.places old started new
   d = subst (λ (k : ℕ). Done m s k old started new) e done
 
 -- with too few cells nothing is done
-pub short_fills : {M V : Type 0} (m : MeasureMeaning V) (s : StreetMeaning) (n : ℕ) (old : List (Cell M V)) → n ≡ s.places → length old < n * n → Fills m s None old old
-short_fills m s n old e less = record {
-  filled = λ room. absurd (let l = short in omega arith);
-  refused = λ _. (refl, refl);
-  behind = refl;
-} where
-  short : length old < s.places * s.places
-  short = subst (λ (k : ℕ). length old < k * k) e less
+pub short_fills : {M V : Type 0} (m : MeasureMeaning V) (s : StreetMeaning) (n : ℕ) (old : List (Cell M V)) (short : TooFewCells) → n ≡ s.places → length old < n * n → Fills m s (Err short) old old
+short_fills m s n old short e less = record { told = (subst (λ (k : ℕ). length old < k * k) e less, refl); behind = refl }

@@ -1,0 +1,19 @@
+use Rattle.std.proofs.Common.{◌≡◌, ℕ, subst, arith}
+use Rattle.rides.specs.PairTables.{FullBelow}
+use Rattle.rides.proofs.Changes.{rides_then}
+use Rattle.rides.proofs.closure.PairTable+M+M+Value.close.Goals as goal
+
+pub loop-k-preserved : goal.loop-k-preserved
+loop-k-preserved g c = (
+  (λ s full. c.relax_round.ensures.rides s (c.loop-k.invariant.0 s full)),
+  rides_then c.args.self.now c.loop-k.self c.relax_round.new.self c.loop-k.invariant.1 c.relax_round.ensures.kept,
+)
+
+pub returns : goal.returns
+returns g c =
+    let same = c.loop-k.invariant.1.0.0 in
+    let e : c.loop-k.k ≡ c.loop-k.self.n = omega arith in
+    record {
+      rides = λ s full. subst (λ (k : ℕ). FullBelow g.M.Measure.meaning s k c.loop-k.self) e (c.loop-k.invariant.0 s full);
+      kept = c.loop-k.invariant.1;
+    }
