@@ -15,5 +15,3 @@ advance-requires g c = let three = c.requires.1 in let long = c.requires.0 in le
   placed = found.2;
 }
 
-pub loop-given-preserved : goal.loop-given-preserved
-loop-given-preserved g c = c.advance.ensures.queue c.loop-given.invariant

@@ -9,11 +9,8 @@ loop-k-preserved g c = (
   rides_then c.args.self.now c.loop-k.self c.relax_round.new.self c.loop-k.invariant.1 c.relax_round.ensures.kept,
 )
 
-pub returns : goal.returns
-returns g c =
+pub returns-clause-rides : goal.returns-clause-rides
+returns-clause-rides g c =
     let same = c.loop-k.invariant.1.0.0 in
     let e : c.loop-k.k ≡ c.loop-k.self.n = omega arith in
-    record {
-      rides = λ s full. subst (λ (k : ℕ). FullBelow g.M.Measure.meaning s k c.loop-k.self) e (c.loop-k.invariant.0 s full);
-      kept = c.loop-k.invariant.1;
-    }
+    λ s full. subst (λ (k : ℕ). FullBelow g.M.Measure.meaning s k c.loop-k.self) e (c.loop-k.invariant.0 s full)

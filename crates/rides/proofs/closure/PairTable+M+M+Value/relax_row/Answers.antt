@@ -2,15 +2,12 @@ use Rattle.std.proofs.Common.{◌≡◌, ℕ, ◌+◌, ◌<◌, Some, Option, sy
 use Rattle.plans.specs.Between.{Reaches}
 use Rattle.tables.specs.Tables.{ride_in}
 use Rattle.rides.specs.Rounds.{Mid}
-use Rattle.rides.proofs.Changes.{rides_stay, rides_then}
+use Rattle.rides.proofs.Changes.{rides_then}
 use Rattle.rides.proofs.Rounding.{mid_step, row_end, row_skip}
 use Rattle.rides.proofs.closure.PairTable+M+M+Value.relax_row.Goals as goal
 
-pub returns-in_default : goal.returns-in_default
-returns-in_default g c = record {
-  rides = λ s mid. row_skip g.M.Measure.meaning g.met.M.Measure.lawful.laws s c.args.self.now.n c.args.k c.requires.1 c.args.i _ c.requires.0 (sym c.ride.ensures ∙ c.in_default.is) mid;
-  kept = rides_stay c.args.self.now;
-}
+pub returns-in_default-clause-rides : goal.returns-in_default-clause-rides
+returns-in_default-clause-rides g c = λ s mid. row_skip g.M.Measure.meaning g.met.M.Measure.lawful.laws s c.args.self.now.n c.args.k c.requires.1 c.args.i _ c.requires.0 (sym c.ride.ensures ∙ c.in_default.is) mid
 
 pub loop-j-preserved : goal.loop-j-preserved
 loop-j-preserved g c =
@@ -34,16 +31,13 @@ loop-j-preserved g c =
       rides_then c.args.self.now c.loop-j.self new c.loop-j.invariant.1 c.relax.ensures.kept,
     )
 
-pub returns : goal.returns
-returns g c =
+pub returns-clause-rides : goal.returns-clause-rides
+returns-clause-rides g c =
     let m = g.M.Measure.meaning in
     let n = c.loop-j.self.n in
     let D = ride_in c.loop-j.self.cells.now n in
     let same = c.loop-j.invariant.1.0.0 in
     let e : c.loop-j.j ≡ n = omega arith in
     let kn : c.args.k < n = omega arith in
-    record {
-      rides = λ s mid. row_end m g.met.M.Measure.lawful.laws s n c.args.k kn c.args.i D
-          (subst (λ (j : ℕ). Mid m s n c.args.k c.args.i j D) e (c.loop-j.invariant.0 s mid));
-      kept = c.loop-j.invariant.1;
-    }
+    λ s mid. row_end m g.met.M.Measure.lawful.laws s n c.args.k kn c.args.i D
+        (subst (λ (j : ℕ). Mid m s n c.args.k c.args.i j D) e (c.loop-j.invariant.0 s mid))
