@@ -13,14 +13,14 @@ use Rattle.rides.proofs.Starting.{done_fills, start_full}
 
 pub table_fills : {M V : Type 0} (m : MeasureMeaning V) → Laws m.nought m.joined m.before → (s : StreetMeaning) → Sound s → (n : ℕ) (old new : List (Cell M V)) (made started closed : PairTable M V) →
     n ≡ s.places → n * n ≤ length old → made.n ≡ n → made.cells.now ≡ old →
-    StartedTo m s started.n 0 started → TableChanged made started → (FullBelow m s 0 started → FullBelow m s closed.n closed) → RidesChanged started closed →
+    StartedTo m s started.n 0 started → TableChanged made started → (FullBelow m s 0 started → FullBelow m s started.n closed) → RidesChanged started closed →
     new ≡ closed.cells.now → Fills m s (Ok n) old new
 table_fills {M} {V} m laws s sound n old new made started closed e room a b begun p rounds q w =
     subst (λ (x : List (Cell M V)). Fills m s (Ok n) old x) (sym w) (done_fills m laws s sound n old started.cells.now closed.cells.now e room (
       subst (λ (k : ℕ). Started m s k k 0 started.cells.now) sn begun,
       subst (λ (x : List (Cell M V)). Behind n x started.cells.now) b (subst (λ (k : ℕ). Behind k made.cells.now started.cells.now) a p.1),
       subst (λ (k : ℕ). RidesOnly k started.cells.now closed.cells.now) sn q.1,
-      subst (λ (k : ℕ). Full m s k k (ride_in closed.cells.now k)) (q.0.0 ∙ sn) (rounds (start_full m s started.n laws started.cells.now begun)),
+      subst (λ (k : ℕ). Full m s n k (ride_in closed.cells.now n)) sn (subst (λ (x : ℕ). Full m s x started.n (ride_in closed.cells.now x)) (q.0.0 ∙ sn) (rounds (record { best = start_full m s started.n laws started.cells.now begun })).best),
     ))
   where
     sn : started.n ≡ n

@@ -1,4 +1,4 @@
-ghost use Rattle.std.specs.Prelude.{◌≡◌, ◌+◌, ◌<◌, Some};
+ghost use Rattle.std.specs.Prelude.{◌+◌, ◌<◌, ◌≤◌, Some};
 ghost use Rattle.measures.specs.Optional.{both};
 ghost use Rattle.streets.specs.Meaning.{StreetMeaning};
 ghost use Rattle.plans.specs.Computed.{lesser};
@@ -32,7 +32,7 @@ impl<'a, M: Measure> PairTable<'a, M, M::Value> {
         let Some(first) = self.ride(i, k) else {
             return;
         };
-        for j in 0..self.places() {
+        for j in 0..self.n {
             self.relax(k, i, j, first);
         }
     }
@@ -43,18 +43,27 @@ impl<'a, M: Measure> PairTable<'a, M, M::Value> {
         ensures rides { (s : StreetMeaning) → FullBelow M.Measure.meaning s k self.old → FullBelow M.Measure.meaning s (k + 1) self.new }
         ensures kept { RidesChanged self.old self.new }
     {
-        for i in 0..self.places() {
+        for i in 0..self.n {
             self.relax_row(k, i);
+        }
+    }
+
+    // The rounds of the places below `end`.
+    fn relax_rounds(&mut self, end: usize)
+        requires { end ≤ self.old.n }
+        ensures rides { (s : StreetMeaning) → FullBelow M.Measure.meaning s 0 self.old → FullBelow M.Measure.meaning s end self.new }
+        ensures kept { RidesChanged self.old self.new }
+    {
+        for k in 0..end {
+            self.relax_round(k);
         }
     }
 
     // From the legs alone to the best by all places: about n * n * n joins.
     pub(crate) fn close(&mut self)
-        ensures rides { (s : StreetMeaning) → FullBelow M.Measure.meaning s 0 self.old → FullBelow M.Measure.meaning s self.new.n self.new }
+        ensures rides { (s : StreetMeaning) → FullBelow M.Measure.meaning s 0 self.old → FullBelow M.Measure.meaning s self.old.n self.new }
         ensures kept { RidesChanged self.old self.new }
     {
-        for k in 0..self.places() {
-            self.relax_round(k);
-        }
+        self.relax_rounds(self.n);
     }
 }

@@ -7,7 +7,7 @@ use tables::access::{pair_place, ride_at};
 #[derive(Drop)]
 pub(crate) struct PairTable<'a, M, V> {
     cells: &'a mut [Cell<M, V>],
-    n: usize,
+    pub(crate) n: usize,
     ghost few: { n ≤ 64 },
     ghost room: { n * n ≤ length cells.now },
 }
@@ -26,7 +26,7 @@ impl<'a, M, V: Copy> PairTable<'a, M, V> {
         PairTable { cells, n }
     }
 
-    // How many places there are.
+    // How many places there are; the check proves the loops at the start over this answer, and not over `self.n`.
     pub(crate) fn places(&self) -> usize
         ensures { result ≡ self.now.n }
     {
@@ -41,7 +41,8 @@ impl<'a, M, V: Copy> PairTable<'a, M, V> {
         ride_at(self.cells, self.n, a, b)
     }
 
-    // Writes the leg's value and the ride from a to b.
+    // Writes the leg's value and the ride from a to b. Two writes: `Cell { leg, ride, ..cell }` gets no proof, since a cell
+    // at a type parameter would be copied out from behind a reference.
     pub(crate) fn set_pair(&mut self, a: usize, b: usize, leg: Option<V>, ride: Option<V>)
         requires { (a < self.old.n) × (b < self.old.n) }
         ensures legs { Written leg_in self.old.n a b leg self.old.cells.now self.new.cells.now }

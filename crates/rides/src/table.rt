@@ -51,7 +51,8 @@ impl<'a, M: Measure> PairTable<'a, M, M::Value> {
     }
 }
 
-// Whether there are fewer cells than pairs of n places.
+// Whether there are fewer cells than pairs of n places. It is asked before the table is made: no clause could say of a `new`
+// that refuses what the lent slice ends as.
 fn lacks_room<M, V>(cells: &[Cell<M, V>], n: usize) -> bool
     requires { n * n ≤ 4096 }
     ensures { result ≡ nat_lt (length cells.now) (n * n) }

@@ -19,12 +19,16 @@ use waiting::opening::let_all_wait;
 
 // Three places and three stops: so 27 placements, and one plan more is wanted.
 const PLACES: usize = 3;
+
 const STOPS: usize = 3;
+
 const PLACEMENTS: usize = 27;
+
 const WANTED: usize = 28;
 
 // The waiting entries begin behind 9 pairs and 9 stops at places; they are 84.
 const BASE: usize = 18;
+
 const CELLS: usize = 102;
 
 // What is wrong with an enumeration.
@@ -105,11 +109,7 @@ fn level<M: Measure>(a: &Entry<M::Value>, b: &Entry<M::Value>) -> bool {
 }
 
 // How many plans come before this one, none where it is none of them.
-fn rank<M: Measure>(
-    cells: &[Cell<M, M::Value>],
-    job: &Job,
-    plan: &Entry<M::Value>,
-) -> Option<usize>
+fn rank<M: Measure>(cells: &[Cell<M, M::Value>], job: &Job, plan: &Entry<M::Value>) -> Option<usize>
     requires { length cells.now ≡ CELLS }
 {
     plan.score?;

@@ -14,4 +14,3 @@ advance-requires g c = let three = c.requires.1 in let long = c.requires.0 in le
   deep = found.1;
   placed = found.2;
 }
-

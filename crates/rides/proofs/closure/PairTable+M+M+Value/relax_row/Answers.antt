@@ -40,4 +40,4 @@ returns-clause-rides g c =
     let e : c.loop-j.j ≡ n = omega arith in
     let kn : c.args.k < n = omega arith in
     λ s mid. row_end m g.met.M.Measure.lawful.laws s n c.args.k kn c.args.i D
-        (subst (λ (j : ℕ). Mid m s n c.args.k c.args.i j D) e (c.loop-j.invariant.0 s mid))
+    (subst (λ (j : ℕ). Mid m s n c.args.k c.args.i j D) e (c.loop-j.invariant.0 s mid))

@@ -1,7 +1,7 @@
 use Rattle.std.proofs.Common.{◌≡◌, ℕ, subst, arith}
 use Rattle.rides.specs.PairTables.{FullBelow}
 use Rattle.rides.proofs.Changes.{rides_then}
-use Rattle.rides.proofs.closure.PairTable+M+M+Value.close.Goals as goal
+use Rattle.rides.proofs.closure.PairTable+M+M+Value.relax_rounds.Goals as goal
 
 pub loop-k-preserved : goal.loop-k-preserved
 loop-k-preserved g c = (
@@ -11,6 +11,5 @@ loop-k-preserved g c = (
 
 pub returns-clause-rides : goal.returns-clause-rides
 returns-clause-rides g c =
-    let same = c.loop-k.invariant.1.0.0 in
-    let e : c.loop-k.k ≡ c.loop-k.self.n = omega arith in
+    let e : c.loop-k.k ≡ c.args.end = omega arith in
     λ s full. subst (λ (k : ℕ). FullBelow g.M.Measure.meaning s k c.loop-k.self) e (c.loop-k.invariant.0 s full)
