@@ -1,8 +1,9 @@
 -- What a waiting subspace in a cell stands for, and the order of such cells.
-use Rattle.std.specs.Prelude.{ℕ, Bool, List, [], None, Option, slice_index}
+use Rattle.std.specs.Prelude.{ℕ, Bool, List, [], None, Option, replicate, slice_index}
 use Rattle.sets.specs.Sets.{has_bit}
 use Rattle.measures.specs.Scales.{at_most}
 use Rattle.trees.specs.Subspaces.{Subspace, sooner}
+use Rattle.cells.specs.declared.cell.Cell.{Cell}
 use Rattle.cells.specs.declared.cell.Entry.{Entry}
 
 -- the place of each stop in a list of places
@@ -12,6 +13,14 @@ places_of xs s = slice_index xs s
 -- an entry without a plan, at the default for reading lists
 abbrev pub no_entry : {V : Type 0} → Entry V
 no_entry = record { score = None; places = []; depth = 0; excluded = record { bits = 0 } }
+
+-- an entry without a plan, of this depth: each stop has place 0, and no place is excluded
+abbrev pub planless : {V : Type 0} → ℕ → Entry V
+planless d = record { score = None; places = replicate 12 0; depth = d; excluded = record { bits = 0 } }
+
+-- a cell in which nothing stands: no value, kind 0, and an entry of depth 0 without a plan
+abbrev pub empty_cell : {M V : Type 0} → Cell M V
+empty_cell = record { leg = None; ride = None; kind = 0; own = None; best = None; hang = None; entry = planless 0; measure = record {} }
 
 -- the subspace that an entry stands for
 abbrev pub space_of : {V : Type 0} → Entry V → Subspace (Option V)

@@ -1,3 +1,6 @@
+ghost use Rattle.std.specs.Prelude.{◌≡◌};
+ghost use Rattle.cells.specs.Cells.{planless, empty_cell};
+
 use sets::PlaceSet;
 use std::marker::PhantomData;
 
@@ -9,6 +12,20 @@ pub struct Entry<V> {
     pub places: [u8; 12],
     pub depth: usize,
     pub excluded: PlaceSet,
+}
+
+impl<V> Entry<V> {
+    // No plan: place 0 for each stop, and no place excluded.
+    pub fn without_plan(depth: usize) -> Entry<V>
+        ensures { result ≡ planless depth }
+    {
+        Entry {
+            score: None,
+            places: [0; 12],
+            depth,
+            excluded: PlaceSet::empty(),
+        }
+    }
 }
 
 // A cell: a record with values of the measure M, which are of the type V, and the planner's notes. It is memory that a
@@ -31,4 +48,22 @@ pub struct Cell<M, V> {
     // a waiting subspace
     pub entry: Entry<V>,
     pub measure: PhantomData<M>,
+}
+
+impl<M, V> Cell<M, V> {
+    // A cell in which nothing stands.
+    pub fn blank() -> Cell<M, V>
+        ensures { result ≡ empty_cell }
+    {
+        Cell {
+            leg: None,
+            ride: None,
+            kind: 0,
+            own: None,
+            best: None,
+            hang: None,
+            entry: Entry::without_plan(0),
+            measure: PhantomData,
+        }
+    }
 }

@@ -1,7 +1,6 @@
-ghost use Rattle.std.specs.Prelude.{◌≡◌};
+ghost use Rattle.std.specs.Prelude.{◌≡◌, if◌then◌else◌};
 ghost use Rattle.measures.specs.Scales.{at_most};
-ghost use Rattle.trees.specs.Subspaces.{not_later};
-ghost use Rattle.cells.specs.Cells.{places_of, entry_before};
+ghost use Rattle.cells.specs.Cells.{entry_before};
 ghost use Rattle.cells.specs.Comparing.{entry_total, entry_trans};
 
 use crate::cell::{Cell, Entry};
@@ -14,38 +13,22 @@ pub fn at_most<M: Measure>(a: Option<M::Value>, b: Option<M::Value>) -> bool
 {
     match (a, b) {
         (Some(x), Some(y)) => M::at_or_before(x, y),
-        (Some(_), None) => true,
-        (None, Some(_)) => false,
-        (None, None) => true,
+        (_, b) => b.is_none(),
     }
 }
 
-// Whether these places are the same as those, or have the smaller one at the first stop where they differ.
-pub fn not_later(a: &[u8; 12], b: &[u8; 12]) -> bool
-    ensures { result ≡ not_later 12 0 (places_of a.now) (places_of b.now) }
+// The lesser of two values, the first of equals, no value being after all of them.
+pub fn lesser<M: Measure>(a: Option<M::Value>, b: Option<M::Value>) -> Option<M::Value>
+    ensures { result ≡ (if at_most M.Measure.meaning.before a b then a else b) }
 {
-    for i in 0..12 {
-        if a[i] < b[i] {
-            return true;
-        }
-        if b[i] < a[i] {
-            return false;
-        }
-    }
-    true
+    if at_most::<M>(a, b) { a } else { b }
 }
 
 // Whether the first plan of one subspace is at or before that of another in the order of plans.
 pub fn entry_at_or_before<M: Measure>(a: &Entry<M::Value>, b: &Entry<M::Value>) -> bool
     ensures { result ≡ entry_before M.Measure.meaning.before a.now b.now }
 {
-    if !at_most::<M>(a.score, b.score) {
-        return false;
-    }
-    if !at_most::<M>(b.score, a.score) {
-        return true;
-    }
-    not_later(&a.places, &b.places)
+    at_most::<M>(a.score, b.score) && (!at_most::<M>(b.score, a.score) || a.places <= b.places)
 }
 
 // Cells in the order of their waiting subspaces.

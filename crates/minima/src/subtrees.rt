@@ -1,7 +1,7 @@
 ghost use Rattle.std.specs.Prelude.{◌≡◌, ℕ, ◌<◌, length, if◌then◌else◌, Some, Option, ◌≢◌, slice_index_or};
 ghost use Rattle.measures.specs.Optional.{both};
 ghost use Rattle.jobs.specs.Jobs.{stops_of};
-ghost use Rattle.measures.specs.Scales.{at_most, optional};
+ghost use Rattle.measures.specs.Scales.{optional};
 ghost use Rattle.trees.specs.Tasks.{Task};
 ghost use Rattle.trees.specs.Minima.{IsLeast};
 ghost use Rattle.trees.specs.Subtrees.{SubtreeLeast};
@@ -10,18 +10,11 @@ ghost use Rattle.minima.specs.Tables.{child_in, link_in, Ready, hanging_in, RowI
 
 use crate::links::{is_child, link_at};
 use cells::cell::Cell;
-use cells::order::at_most;
+use cells::order::lesser;
 use jobs::job::Job;
 use measures::Measure;
 use measures::optional::join_options;
 use tables::access::{best_at, hang_at, own_at, set_best, set_hang, stop_place};
-
-// The lesser of two values, the first of equals.
-fn lesser<M: Measure>(a: Option<M::Value>, b: Option<M::Value>) -> Option<M::Value>
-    ensures { result ≡ (if at_most M.Measure.meaning.before a b then a else b) }
-{
-    if at_most::<M>(a, b) { a } else { b }
-}
 
 // What stop c adds to the subtree of stop s at place q.
 fn hanging_at<M: Measure>(

@@ -1,16 +1,8 @@
--- Room in cells: it is a matter of how many they are, and the heads of all rows stand within them.
+-- The heads of all rows stand within the cells.
 use Rattle.std.proofs.Common.{◌≡◌, ℕ, ◌+◌, ◌*◌, ◌<◌, ◌≤◌, List, length, sym, subst, arith}
 use Rattle.cells.specs.declared.cell.Cell.{Cell}
 use Rattle.leaders.proofs.Foremost.{head_in}
 use Rattle.turns.specs.Standing.{behind_tables, Roomy}
-
-pub still_roomy : {M V : Type 0} (old new : List (Cell M V)) (n m k : ℕ) → length new ≡ length old → Roomy old n m k → Roomy new n m k
-still_roomy old new n m k same r = record {
-  few = r.few;
-  some = r.some;
-  most = r.most;
-  room = subst (λ (x : ℕ). behind_tables n m + k * m ≤ x) (sym same) r.room;
-}
 
 -- of m stops (m' the same number) entry w of k heads, counted from where the tables end
 pub head_inside : {M V : Type 0} (cells : List (Cell M V)) (n m m' k w base : ℕ) → 1 ≤ m → m' ≡ m → base ≡ behind_tables n m' → Roomy cells n m k → w < k → base + w < length cells

@@ -12,7 +12,7 @@ ghost use Rattle.turns.specs.Standing.{behind_tables, Roomy};
 ghost use Rattle.leaders.specs.Leaders.{Rows};
 
 use anyhow::anyhow;
-use cells::cell::{Cell, Entry};
+use cells::cell::Cell;
 use jobs::job::{Draft, Job};
 use jobs::stops::{Link, Stop, Tie};
 use measures::Measure;
@@ -23,9 +23,7 @@ use measures::time::Time;
 use measures::values::{ClimbValue, LongestValue, TimeValue};
 use quarters::quarter::Quarter;
 use rides::table::fill;
-use sets::PlaceSet;
-use std::io;
-use std::marker::PhantomData;
+use std::{fmt, io};
 use tables::access::entry_at;
 use turns::starting::{begin, begin_again, behind_tables};
 use turns::turning::{give, look};
@@ -33,31 +31,59 @@ use turns::turning::{give, look};
 // How many cells are lent.
 const CELLS: usize = 912;
 
-// A cell in which nothing stands yet.
-fn cell<M, V: Copy>() -> Cell<M, V> {
-    Cell {
-        leg: None,
-        ride: None,
-        kind: 0,
-        own: None,
-        best: None,
-        hang: None,
-        entry: Entry {
-            score: None,
-            places: [0; 12],
-            depth: 0,
-            excluded: PlaceSet::empty(),
-        },
-        measure: PhantomData,
+// Why a case has no plans: a number of the quarter is outside its range, the stops make no tree, or there are too few
+// cells.
+#[derive(Debug, PartialEq, Eq, Clone, Copy)]
+enum Refusal {
+    NoQuarter,
+    NoJob,
+    NoRoom,
+}
+
+impl fmt::Display for Refusal {
+    fn fmt<W: fmt::Write>(&self, f: &mut fmt::Formatter<W>) -> fmt::Result {
+        match self {
+            Refusal::NoQuarter => write!(f, "no quarter"),
+            Refusal::NoJob => write!(f, "no job"),
+            Refusal::NoRoom => write!(f, "no room"),
+        }
+    }
+}
+
+// A score as it is printed: one number, or two with a colon between them.
+#[derive(Clone, Copy)]
+struct Score(Shown);
+
+impl fmt::Display for Score {
+    fn fmt<W: fmt::Write>(&self, f: &mut fmt::Formatter<W>) -> fmt::Result {
+        match self.0 {
+            Shown::One(n) => write!(f, "{n}"),
+            Shown::Two(n, k) => write!(f, "{n}:{k}"),
+        }
+    }
+}
+
+// A plan as it is printed: its number, its score, and the place of each stop.
+#[derive(Clone, Copy)]
+struct Line<'a> {
+    number: usize,
+    score: Score,
+    places: &'a [u8],
+}
+
+impl fmt::Display for Line<'_> {
+    fn fmt<W: fmt::Write>(&self, f: &mut fmt::Formatter<W>) -> fmt::Result {
+        write!(f, "{} score {} at", self.number, self.score)?;
+        for place in self.places {
+            write!(f, " {place}")?;
+        }
+        Ok(())
     }
 }
 
 // The first word of a text, and what stands behind the space after it.
 fn cut(text: &str) -> (&str, &str) {
-    match text.split_once(' ') {
-        Some(parts) => parts,
-        None => text.split_at(text.len()),
-    }
+    text.split_once(' ').unwrap_or(text.split_at(text.len()))
 }
 
 // The number in front of a text, and what stands behind it.
@@ -70,9 +96,9 @@ fn read_number(text: &str) -> anyhow::Result<(u32, &str)> {
 fn read_front(text: &str) -> anyhow::Result<([u32; 6], &str)> {
     let mut numbers = [0; 6];
     let mut rest = text;
-    for i in 0..6 {
-        let (number, behind) = read_number(rest)?;
-        numbers[i] = number;
+    for number in &mut numbers {
+        let (next, behind) = read_number(rest)?;
+        *number = next;
         rest = behind;
     }
     Ok((numbers, rest))
@@ -102,10 +128,8 @@ fn read_stop(text: &str) -> anyhow::Result<(Stop, &str)> {
 // A draft put into a job, none where it has no stops.
 fn job_of(draft: Draft) -> Option<Job> {
     let mut job = Job::new();
-    match job.put(draft) {
-        Ok(_) => Some(job),
-        Err(_) => None,
-    }
+    job.put(draft).ok()?;
+    Some(job)
 }
 
 // The job that a text has, none where its stops make no tree. The thirteenth stop is refused, so no more are read.
@@ -125,26 +149,30 @@ fn read_job(text: &str) -> anyhow::Result<Option<Job>> {
     Ok(job_of(draft))
 }
 
-// A case: the quarter, none where a number is outside its range; the job, none where its stops make no tree; and how many
-// plans are wanted.
+// A case: the quarter, the job, and how many plans are wanted.
 #[derive(Clone, Copy)]
 struct Case {
-    quarter: Option<Quarter>,
-    job: Option<Job>,
+    quarter: Quarter,
+    job: Job,
     wanted: u32,
 }
 
-// The case that a text has.
-fn read_case(text: &str) -> anyhow::Result<Case> {
+// The case that a text has, or why it has none.
+fn read_case(text: &str) -> anyhow::Result<Result<Case, Refusal>> {
     let (numbers, rest) = read_front(text)?;
     let [width, height, kinds, seconds, climb, wanted] = numbers;
     let job = read_job(rest)?;
-    let quarter = Quarter::new(width, height, kinds, seconds, climb).ok();
-    Ok(Case {
+    let Ok(quarter) = Quarter::new(width, height, kinds, seconds, climb) else {
+        return Ok(Err(Refusal::NoQuarter));
+    };
+    let Some(job) = job else {
+        return Ok(Err(Refusal::NoJob));
+    };
+    Ok(Ok(Case {
         quarter,
         job,
         wanted,
-    })
+    }))
 }
 
 // How many entries wait at most, m for each of k plans.
@@ -166,24 +194,6 @@ fn has_room<M, V>(cells: &[Cell<M, V>], n: usize, job: &Job, k: usize) -> bool
     behind_tables(n, m) + entries(k, m) <= cells.len()
 }
 
-// Prints a plan's number and its score.
-fn print_score(rt: &HostRuntime, number: usize, score: Shown) -> io::Result<()> {
-    match score {
-        Shown::One(n) => print!(rt; "{number} score {n} at"),
-        Shown::Two(n, k) => print!(rt; "{number} score {n}:{k} at"),
-    }
-}
-
-// Prints the places of the first m stops.
-fn print_places(rt: &HostRuntime, places: &[u8; 12], m: usize) -> io::Result<()>
-    requires { m ≤ 12 }
-{
-    for place in &places[0..m] {
-        print!(rt; " {place}")?;
-    }
-    println!(rt)
-}
-
 // Prints the plan of entry w, `rows` plans being given before it.
 fn print_plan<M: Measure>(
     rt: &HostRuntime,
@@ -201,16 +211,18 @@ fn print_plan<M: Measure>(
     let Some(score) = plan.score else {
         return println!(rt; "no score");
     };
-    print_score(rt, rows + 1, M::show(score))?;
-    print_places(rt, &plan.places, m)
+    let line = Line {
+        number: rows + 1,
+        score: Score(M::show(score)),
+        places: &plan.places[0..m],
+    };
+    println!(rt; "{line}")
 }
 
 // Prints how many plans were given, and whether more are left.
 fn print_end(rt: &HostRuntime, given: usize, next: Option<usize>) -> io::Result<()> {
-    match next {
-        None => println!(rt; "{given} given, none left"),
-        Some(_) => println!(rt; "{given} given, more left"),
-    }
+    let left = if next.is_some() { "more" } else { "none" };
+    println!(rt; "{given} given, {left} left")
 }
 
 // Gives and prints the plans in turn, at most as many as `most`.
@@ -242,11 +254,11 @@ fn give_twice<M: Measure>(
     job: &Job,
     k: usize,
 ) -> io::Result<()> {
-    let Some(n) = fill::<M, Quarter>(cells, street) else {
-        return println!(rt; "no room");
+    let Ok(n) = fill::<M, Quarter>(cells, street) else {
+        return println!(rt; "{}", Refusal::NoRoom);
     };
     if !has_room(cells, n, job, k) {
-        return println!(rt; "no room");
+        return println!(rt; "{}", Refusal::NoRoom);
     }
     begin::<M>(cells, n, job, k);
     give_plans::<M>(rt, cells, n, job, k, k)?;
@@ -254,19 +266,16 @@ fn give_twice<M: Measure>(
     give_plans::<M>(rt, cells, n, job, k, 1)
 }
 
-// Runs a case over lent cells.
+// Runs a case over lent cells, or prints why it has no plans.
 fn run_case<M: Measure>(
     rt: &HostRuntime,
     cells: &mut [Cell<M, M::Value>],
-    case: &Case,
+    case: Result<Case, Refusal>,
 ) -> io::Result<()> {
-    let Some(street) = case.quarter else {
-        return println!(rt; "no quarter");
-    };
-    let Some(job) = case.job else {
-        return println!(rt; "no job");
-    };
-    give_twice::<M>(rt, cells, &street, &job, case.wanted as usize)
+    match case {
+        Ok(case) => give_twice::<M>(rt, cells, &case.quarter, &case.job, case.wanted as usize),
+        Err(refusal) => println!(rt; "{refusal}"),
+    }
 }
 
 // Prints a line and runs its case, over the cells of its measure. A line that begins with # is only printed.
@@ -284,9 +293,9 @@ fn run_line(
     }
     let case = read_case(rest)?;
     let done = match name {
-        "t" => run_case::<Time>(rt, times, &case),
-        "l" => run_case::<Longest>(rt, longests, &case),
-        "c" => run_case::<Climb>(rt, climbs, &case),
+        "t" => run_case::<Time>(rt, times, case),
+        "l" => run_case::<Longest>(rt, longests, case),
+        "c" => run_case::<Climb>(rt, climbs, case),
         _ => return Err(anyhow!("no such measure")),
     };
     Ok(done?)
@@ -307,9 +316,9 @@ fn run_lines(
 }
 
 fn run(rt: &HostRuntime) -> anyhow::Result<()> {
-    let mut times = [cell::<Time, TimeValue>(); CELLS];
-    let mut longests = [cell::<Longest, LongestValue>(); CELLS];
-    let mut climbs = [cell::<Climb, ClimbValue>(); CELLS];
+    let mut times = [Cell::<Time, TimeValue>::blank(); CELLS];
+    let mut longests = [Cell::<Longest, LongestValue>::blank(); CELLS];
+    let mut climbs = [Cell::<Climb, ClimbValue>::blank(); CELLS];
     run_lines(rt, &mut times, &mut longests, &mut climbs)
 }
 

@@ -5,7 +5,7 @@ use Rattle.std.proofs.lemmas.Nat.{div-mul-add, mod-mul-add}
 use Rattle.tables.specs.Tables.{blank, leg_in, ride_in, kind_in}
 use Rattle.cells.specs.declared.cell.Cell.{Cell}
 use Rattle.tables.proofs.Reading.{same_part}
-use Rattle.rides.specs.Rounds.{Written, KindWritten, SameLegs, SameKinds, RidesOnly}
+use Rattle.rides.specs.Rounds.{Written, KindWritten, SameLegs, SameKinds}
 
 -- two pairs with the same cell are the same
 same_row : (n a b c d : ℕ) → b < n → d < n → a * n + b ≡ c * n + d → a ≡ c
@@ -84,7 +84,3 @@ kind_written cells n p i at within hp x l r = record {
   legs = same_legs cells n p p i at within x l;
   rides = same_rides cells n p p i at within x r;
 }
-
--- what two steps leave, both leave
-pub kept_then : {M V : Type 0} (n : ℕ) (a b c : List (Cell M V)) → RidesOnly n a b → RidesOnly n b c → RidesOnly n a c
-kept_then n a b c p q = ((λ x y. q.0 x y ∙ p.0 x y), (λ x. q.1 x ∙ p.1 x), q.2 ∙ p.2)

@@ -1,4 +1,7 @@
 pub mod CellWrites
+pub mod Changes
+pub mod Filling
+pub mod Lesser
 pub mod Rounding
 pub mod Starting
 pub mod Still

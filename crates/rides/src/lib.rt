@@ -1,5 +1,5 @@
 #![tactic(auto)]
 
-pub mod closure;
+mod closure;
 mod pairs;
 pub mod table;

@@ -1,52 +1,77 @@
-ghost use Rattle.std.specs.Prelude.{◌*◌, ◌<◌, ◌≤◌, length};
-ghost use Rattle.tables.specs.Tables.{leg_in, ride_in};
-ghost use Rattle.rides.specs.Rounds.{Written, KindWritten, Behind, SameKinds, RidesOnly};
+ghost use Rattle.std.specs.Prelude.{◌≡◌, ◌*◌, ◌<◌, ◌≤◌, length};
 
 use cells::cell::Cell;
-use tables::access::pair_place;
+use tables::access::{pair_place, ride_at};
 
-// Writes the leg's value and the ride from a to b.
-pub(crate) fn set_pair<M, V: Copy>(
-    cells: &mut [Cell<M, V>],
-    n: usize,
-    a: usize,
-    b: usize,
-    leg: Option<V>,
-    ride: Option<V>,
-)
-    requires { (a < n) × (b < n) × (n ≤ 64) × (n * n ≤ length cells.old) }
-    ensures legs { Written leg_in n a b leg cells.old cells.new }
-    ensures rides { Written ride_in n a b ride cells.old cells.new }
-    ensures kinds { SameKinds n cells.old cells.new }
-    ensures behind { Behind n cells.old cells.new }
-{
-    let i = pair_place(n, a, b);
-    cells[i].leg = leg;
-    cells[i].ride = ride;
+// The table of pairs of n places, which stands in the first cells of those that are lent.
+#[derive(Drop)]
+pub(crate) struct PairTable<'a, M, V> {
+    cells: &'a mut [Cell<M, V>],
+    pub(crate) n: usize,
+    ghost few: { n ≤ 64 },
+    ghost room: { n * n ≤ length cells.now },
 }
 
-// Writes the ride from a to b.
-pub(crate) fn set_ride<M, V: Copy>(
-    cells: &mut [Cell<M, V>],
-    n: usize,
-    a: usize,
-    b: usize,
-    ride: Option<V>,
-)
-    requires { (a < n) × (b < n) × (n ≤ 64) × (n * n ≤ length cells.old) }
-    ensures rides { Written ride_in n a b ride cells.old cells.new }
-    ensures kept { RidesOnly n cells.old cells.new }
-{
-    let i = pair_place(n, a, b);
-    cells[i].ride = ride;
-}
+impl<'a, M, V: Copy> PairTable<'a, M, V> {
+    ghost use Rattle.tables.specs.Tables.{leg_in, ride_in};
+    ghost use Rattle.rides.specs.Rounds.{Written, KindWritten, SameKinds};
+    ghost use Rattle.rides.specs.PairTables.{TableChanged, RidesChanged};
 
-// Writes the kind of a place.
-pub(crate) fn set_kind<M, V: Copy>(cells: &mut [Cell<M, V>], n: usize, p: usize, kind: u8)
-    requires { (p < n) × (n ≤ 64) × (n * n ≤ length cells.old) }
-    ensures kind { KindWritten n p kind cells.old cells.new }
-    ensures behind { Behind n cells.old cells.new }
-{
-    let i = pair_place(n, p, p);
-    cells[i].kind = kind;
+    // The table in these cells.
+    pub(crate) fn new(cells: &'a mut [Cell<M, V>], n: usize) -> PairTable<'a, M, V>
+        requires { (n ≤ 64) × (n * n ≤ length cells.old) }
+        ensures same { (result.n ≡ n) × (result.cells.ghost_name ≡ cells.entry.ghost_name) }
+        ensures cells { result.cells.now ≡ cells.old }
+    {
+        PairTable { cells, n }
+    }
+
+    // How many places there are; the check proves the loops at the start over this answer, and not over `self.n`.
+    pub(crate) fn places(&self) -> usize
+        ensures { result ≡ self.now.n }
+    {
+        self.n
+    }
+
+    // The ride from a to b.
+    pub(crate) fn ride(&self, a: usize, b: usize) -> Option<V>
+        requires { (a < self.now.n) × (b < self.now.n) }
+        ensures { result ≡ ride_in self.now.cells.now self.now.n a b }
+    {
+        ride_at(self.cells, self.n, a, b)
+    }
+
+    // Writes the leg's value and the ride from a to b. Two writes: `Cell { leg, ride, ..cell }` gets no proof, since a cell
+    // at a type parameter would be copied out from behind a reference.
+    pub(crate) fn set_pair(&mut self, a: usize, b: usize, leg: Option<V>, ride: Option<V>)
+        requires { (a < self.old.n) × (b < self.old.n) }
+        ensures legs { Written leg_in self.old.n a b leg self.old.cells.now self.new.cells.now }
+        ensures rides { Written ride_in self.old.n a b ride self.old.cells.now self.new.cells.now }
+        ensures kinds { SameKinds self.old.n self.old.cells.now self.new.cells.now }
+        ensures kept { TableChanged self.old self.new }
+    {
+        let i = pair_place(self.n, a, b);
+        self.cells[i].leg = leg;
+        self.cells[i].ride = ride;
+    }
+
+    // Writes the ride from a to b.
+    pub(crate) fn set_ride(&mut self, a: usize, b: usize, ride: Option<V>)
+        requires { (a < self.old.n) × (b < self.old.n) }
+        ensures rides { Written ride_in self.old.n a b ride self.old.cells.now self.new.cells.now }
+        ensures kept { RidesChanged self.old self.new }
+    {
+        let i = pair_place(self.n, a, b);
+        self.cells[i].ride = ride;
+    }
+
+    // Writes the kind of a place.
+    pub(crate) fn set_kind(&mut self, p: usize, kind: u8)
+        requires { p < self.old.n }
+        ensures kind { KindWritten self.old.n p kind self.old.cells.now self.new.cells.now }
+        ensures kept { TableChanged self.old self.new }
+    {
+        let i = pair_place(self.n, p, p);
+        self.cells[i].kind = kind;
+    }
 }

@@ -1,14 +1,16 @@
 ghost use Rattle.std.specs.Prelude.{◌≡◌, ◌+◌, ◌*◌, ◌<◌, ◌≤◌, length, nat_lt};
 ghost use Rattle.plans.specs.Walks.{direct};
-ghost use Rattle.tables.specs.Tables.{leg_in, ride_in};
 ghost use Rattle.rides.specs.Cells.{Fills};
-ghost use Rattle.rides.specs.Rounds.{Written, KindWritten, Behind, SameKinds, Started};
+ghost use Rattle.rides.specs.PairTables.{TableChanged, StartedTo};
 
-use crate::closure::close;
-use crate::pairs::{set_kind, set_pair};
+use crate::pairs::PairTable;
 use cells::cell::Cell;
 use measures::Measure;
 use streets::street::Street;
+
+// The refusal of a table with more pairs of places than there are cells.
+#[derive(Debug, PartialEq, Eq, Clone, Copy)]
+pub struct TooFewCells;
 
 // How many places a street has, with what its bound of 64 says of the table.
 fn places_of<S: Street>(street: &S) -> usize
@@ -21,68 +23,36 @@ fn places_of<S: Street>(street: &S) -> usize
 fn leg_value<M: Measure, S: Street>(street: &S, a: usize, b: usize) -> Option<M::Value>
     ensures { result ≡ direct M.Measure.meaning (S.Street.meaning street.now) a b }
 {
-    match street.leg(a, b) {
-        Some(leg) => Some(M::leg(leg.climb, leg.seconds)),
-        None => None,
+    street.leg(a, b).map(|leg| M::leg(leg.climb, leg.seconds))
+}
+
+impl<'a, M: Measure> PairTable<'a, M, M::Value> {
+    // One row at the start: of each pair from a the leg, and as its ride that leg alone; and the kind of a.
+    fn start_row<S: Street>(&mut self, street: &S, a: usize)
+        requires { a < self.old.n }
+        ensures started { StartedTo M.Measure.meaning (S.Street.meaning street.now) a 0 self.old → StartedTo M.Measure.meaning (S.Street.meaning street.now) (a + 1) 0 self.new }
+        ensures kept { TableChanged self.old self.new }
+    {
+        for b in 0..self.places() {
+            let value = leg_value::<M, S>(street, a, b);
+            self.set_pair(a, b, value, value);
+        }
+        self.set_kind(a, street.kind(a));
+    }
+
+    // All rows at the start.
+    fn start<S: Street>(&mut self, street: &S)
+        ensures started { StartedTo M.Measure.meaning (S.Street.meaning street.now) self.new.n 0 self.new }
+        ensures kept { TableChanged self.old self.new }
+    {
+        for a in 0..self.places() {
+            self.start_row(street, a);
+        }
     }
 }
 
-// What is known of a pair at the start: its leg, and as its ride that leg alone.
-fn start_pair<M: Measure, S: Street>(
-    cells: &mut [Cell<M, M::Value>],
-    street: &S,
-    n: usize,
-    a: usize,
-    b: usize,
-)
-    requires { (a < n) × (b < n) × (n ≤ 64) × (n * n ≤ length cells.old) }
-    ensures legs { Written leg_in n a b (direct M.Measure.meaning (S.Street.meaning street.now) a b) cells.old cells.new }
-    ensures rides { Written ride_in n a b (direct M.Measure.meaning (S.Street.meaning street.now) a b) cells.old cells.new }
-    ensures kinds { SameKinds n cells.old cells.new }
-    ensures behind { Behind n cells.old cells.new }
-{
-    let value = leg_value::<M, S>(street, a, b);
-    set_pair(cells, n, a, b, value, value);
-}
-
-// The kind of a place.
-fn start_kind<M: Measure, S: Street>(
-    cells: &mut [Cell<M, M::Value>],
-    street: &S,
-    n: usize,
-    p: usize,
-)
-    requires { (p < n) × (n ≤ 64) × (n * n ≤ length cells.old) }
-    ensures kind { KindWritten n p ((S.Street.meaning street.now).kind p) cells.old cells.new }
-    ensures behind { Behind n cells.old cells.new }
-{
-    set_kind(cells, n, p, street.kind(p));
-}
-
-// One row at the start: the pairs from a, and the kind of a.
-fn start_row<M: Measure, S: Street>(cells: &mut [Cell<M, M::Value>], street: &S, n: usize, a: usize)
-    requires { (a < n) × (n ≤ 64) × (n * n ≤ length cells.old) }
-    ensures started { Started M.Measure.meaning (S.Street.meaning street.now) n a 0 cells.old → Started M.Measure.meaning (S.Street.meaning street.now) n (a + 1) 0 cells.new }
-    ensures behind { Behind n cells.old cells.new }
-{
-    for b in 0..n {
-        start_pair::<M, S>(cells, street, n, a, b);
-    }
-    start_kind::<M, S>(cells, street, n, a);
-}
-
-// All rows at the start.
-fn start<M: Measure, S: Street>(cells: &mut [Cell<M, M::Value>], street: &S, n: usize)
-    requires { (n ≤ 64) × (n * n ≤ length cells.old) }
-    ensures started { Started M.Measure.meaning (S.Street.meaning street.now) n n 0 cells.new }
-    ensures behind { Behind n cells.old cells.new }
-{
-    for a in 0..n {
-        start_row::<M, S>(cells, street, n, a);
-    }
-}
-
-// Whether there are fewer cells than pairs of n places.
+// Whether there are fewer cells than pairs of n places. It is asked before the table is made: no clause could say of a `new`
+// that refuses what the lent slice ends as.
 fn lacks_room<M, V>(cells: &[Cell<M, V>], n: usize) -> bool
     requires { n * n ≤ 4096 }
     ensures { result ≡ nat_lt (length cells.now) (n * n) }
@@ -91,15 +61,19 @@ fn lacks_room<M, V>(cells: &[Cell<M, V>], n: usize) -> bool
 }
 
 // Fills the table of a street's legs and rides, n * n cells for n places, with the kinds of the places, and answers n.
-// With fewer cells it answers none and writes nothing.
-pub fn fill<M: Measure, S: Street>(cells: &mut [Cell<M, M::Value>], street: &S) -> Option<usize>
+// With fewer cells it is refused and writes nothing.
+pub fn fill<M: Measure, S: Street>(
+    cells: &mut [Cell<M, M::Value>],
+    street: &S,
+) -> Result<usize, TooFewCells>
     ensures { Fills M.Measure.meaning (S.Street.meaning street.now) result cells.old cells.new }
 {
     let n = places_of(street);
     if lacks_room(cells, n) {
-        return None;
+        return Err(TooFewCells);
     }
-    start::<M, S>(cells, street, n);
-    close::<M>(cells, n);
-    Some(n)
+    let mut table = PairTable::new(cells, n);
+    table.start(street);
+    table.close();
+    Ok(n)
 }

@@ -1,8 +1,9 @@
 // The first plan and the whole enumeration over random small tables, compared with all placements laid out.
 #![tactic(auto)]
 
-ghost use Rattle.std.specs.Prelude.{◌≡◌, ◌+◌, ◌<◌, length};
+ghost use Rattle.std.specs.Prelude.{◌≡◌, length};
 ghost use Rattle.jobs.specs.Jobs.{stops_of};
+ghost use Rattle.leaders.specs.Leaders.{Rows};
 
 use cells::cell::{Cell, Entry};
 use cells::order::entry_at_or_before;
@@ -13,12 +14,33 @@ use measures::Measure;
 use measures::optional::join_options;
 use minima::links::{link_at, parent_at};
 use minima::subtrees::fill_minima;
-use sets::PlaceSet;
 use tables::access::{entry_at, own_at};
 use waiting::opening::let_all_wait;
 
-// Three places, three stops, 28 plans wanted: 9 pairs, 9 stops at places, 84 waiting entries.
+// Three places and three stops: so 27 placements, and one plan more is wanted.
+const PLACES: usize = 3;
+
+const STOPS: usize = 3;
+
+const PLACEMENTS: usize = 27;
+
+const WANTED: usize = 28;
+
+// The waiting entries begin behind 9 pairs and 9 stops at places; they are 84.
+const BASE: usize = 18;
+
 const CELLS: usize = 102;
+
+// What is wrong with an enumeration.
+#[derive(Debug, PartialEq, Eq, Clone, Copy)]
+enum Wrong {
+    // the job or the cells are not as the tests take them
+    Setting,
+    // a plan is given before another that comes before it, or it is none
+    Turn,
+    // too few plans are given, or too many
+    Count,
+}
 
 // The next number of a small generator.
 fn next(x: u64) -> u64 {
@@ -36,160 +58,101 @@ fn some_value<M: Measure>(x: u64) -> Option<M::Value> {
     }
 }
 
-// One cell with random values.
-fn set_cell<M: Measure>(cells: &mut [Cell<M, M::Value>], i: usize, x: u64)
-    requires { i < length cells.old }
-    ensures { length cells.new ≡ length cells.old }
-{
-    cells[i].leg = some_value::<M>(x);
-    cells[i].ride = some_value::<M>(x / 512);
-    cells[i].own = some_value::<M>(x / 262144);
-}
-
-// All cells with random values.
-fn fill<M: Measure>(cells: &mut [Cell<M, M::Value>], seed: u64)
-    ensures { length cells.new ≡ length cells.old }
-{
+// Fills all cells with random values.
+fn fill<M: Measure>(cells: &mut [Cell<M, M::Value>], seed: u64) {
     let mut x = seed;
-    for i in 0..cells.len() {
+    for cell in cells.iter_mut() {
         x = next(x);
-        set_cell::<M>(cells, i, x);
+        cell.leg = some_value::<M>(x);
+        cell.ride = some_value::<M>(x / 512);
+        cell.own = some_value::<M>(x / 262144);
     }
 }
 
-// The places of the placement with this number.
-fn placement(q: usize) -> [u8; 12] {
-    let mut places = [0; 12];
-    places[0] = (q / 9 % 3) as u8;
-    places[1] = (q / 3 % 3) as u8;
-    places[2] = (q % 3) as u8;
-    places
-}
-
-// A placement with its score, joined from the tables.
+// The placement with this number, with its score joined from the tables.
 fn laid_out<M: Measure>(cells: &[Cell<M, M::Value>], job: &Job, q: usize) -> Entry<M::Value>
-    requires { length cells.now ≡ 102 }
+    requires { length cells.now ≡ CELLS }
 {
     let a = q / 9 % 3;
     let b = q / 3 % 3;
     let c = q % 3;
     let above = if parent_at(job, 2) == 0 { a } else { b };
-    let first = own_at(cells, 3, 3, 0, a);
-    let second = join_options::<M>(own_at(cells, 3, 3, 1, b), link_at(cells, 3, job, 1, a, b));
-    let third = join_options::<M>(
-        own_at(cells, 3, 3, 2, c),
-        link_at(cells, 3, job, 2, above, c),
+    let first = own_at(cells, PLACES, STOPS, 0, a);
+    let second = join_options::<M>(
+        own_at(cells, PLACES, STOPS, 1, b),
+        link_at(cells, PLACES, job, 1, a, b),
     );
-    let score = join_options::<M>(first, join_options::<M>(second, third));
-    Entry {
-        score,
-        places: placement(q),
-        depth: 0,
-        excluded: PlaceSet::empty(),
-    }
+    let third = join_options::<M>(
+        own_at(cells, PLACES, STOPS, 2, c),
+        link_at(cells, PLACES, job, 2, above, c),
+    );
+    let mut entry = Entry::without_plan(0);
+    entry.score = join_options::<M>(first, join_options::<M>(second, third));
+    entry.places[0] = a as u8;
+    entry.places[1] = b as u8;
+    entry.places[2] = c as u8;
+    entry
 }
 
 // How many placements are plans.
 fn plans<M: Measure>(cells: &[Cell<M, M::Value>], job: &Job) -> usize
-    requires { length cells.now ≡ 102 }
+    requires { length cells.now ≡ CELLS }
 {
-    let mut count: usize = 0;
-    for q in 0..27 {
-        if laid_out::<M>(cells, job, q).score.is_some() && count < 27 {
-            count += 1;
+    (0..PLACEMENTS)
+        .filter(|q| laid_out::<M>(cells, job, *q).score.is_some())
+        .count()
+}
+
+// Whether two plans have the same place in the order.
+fn level<M: Measure>(a: &Entry<M::Value>, b: &Entry<M::Value>) -> bool {
+    entry_at_or_before::<M>(a, b) && entry_at_or_before::<M>(b, a)
+}
+
+// How many plans come before this one, none where it is none of them.
+fn rank<M: Measure>(cells: &[Cell<M, M::Value>], job: &Job, plan: &Entry<M::Value>) -> Option<usize>
+    requires { length cells.now ≡ CELLS }
+{
+    plan.score?;
+    if !(0..PLACEMENTS).any(|q| level::<M>(plan, &laid_out::<M>(cells, job, q))) {
+        return None;
+    }
+    let before = (0..PLACEMENTS)
+        .filter(|q| !entry_at_or_before::<M>(plan, &laid_out::<M>(cells, job, *q)))
+        .count();
+    Some(before)
+}
+
+// Gives the plans in turn: each has just as many plans before it as are given, and at the end all are given.
+fn enumerate<M: Measure>(cells: &mut [Cell<M, M::Value>], job: &Job) -> Result<(), Wrong>
+    requires { (length cells.old ≡ CELLS) × (length (stops_of job.now) ≡ STOPS) × Rows cells.old BASE PLACES (length (stops_of job.now)) WANTED 0 }
+{
+    for given in 0..WANTED {
+        let Some(w) = find_head::<M>(cells, job, BASE, WANTED) else {
+            let all = given == plans::<M>(cells, job);
+            return if all { Ok(()) } else { Err(Wrong::Count) };
+        };
+        let plan = entry_at(cells, BASE + w);
+        if rank::<M>(cells, job, &plan) != Some(given) {
+            return Err(Wrong::Turn);
         }
+        advance::<M>(cells, PLACES, job, BASE, WANTED, given, w);
     }
-    count
-}
-
-// How many plans come before this one, or 99 where it is none of them.
-fn rank<M: Measure>(cells: &[Cell<M, M::Value>], job: &Job, plan: &Entry<M::Value>) -> usize
-    requires { length cells.now ≡ 102 }
-{
-    let mut before: usize = 0;
-    let mut found = false;
-    for q in 0..27 {
-        let other = laid_out::<M>(cells, job, q);
-        if !entry_at_or_before::<M>(plan, &other) {
-            if before < 27 {
-                before += 1;
-            }
-        } else if entry_at_or_before::<M>(&other, plan) {
-            found = true;
-        }
-    }
-    if found && plan.score.is_some() {
-        before
-    } else {
-        99
-    }
-}
-
-// Gives the plan of head w where row `rows` is free for its parts; tells whether it could be given.
-fn give<M: Measure>(cells: &mut [Cell<M, M::Value>], job: &Job, rows: usize, w: usize) -> bool
-    requires { (length cells.old ≡ 102) × (length (stops_of job.now) ≡ 3) }
-    ensures { length cells.new ≡ length cells.old }
-{
-    if rows >= 28 || w > rows {
-        return false;
-    }
-    let plan = entry_at(cells, 18 + w);
-    if plan.depth >= 3 || plan.places[0] >= 3 || plan.places[1] >= 3 || plan.places[2] >= 3 {
-        return false;
-    }
-    advance::<M>(cells, 3, job, 18, 28, rows, w);
-    true
-}
-
-// Whether head w has the plan with this number.
-fn right<M: Measure>(cells: &[Cell<M, M::Value>], job: &Job, number: usize, w: usize) -> bool
-    requires { length cells.now ≡ 102 }
-{
-    if w >= 28 {
-        return false;
-    }
-    let plan = entry_at(cells, 18 + w);
-    rank::<M>(cells, job, &plan) == number
-}
-
-// Whether each plan given has just as many plans before it as were given, and all plans are given.
-fn enumerated<M: Measure>(cells: &mut [Cell<M, M::Value>], job: &Job) -> bool
-    requires { (length cells.old ≡ 102) × (length (stops_of job.now) ≡ 3) }
-    ensures { length cells.new ≡ length cells.old }
-{
-    for given in 0..28 {
-        match find_head::<M>(cells, job, 18, 28) {
-            None => return given == plans::<M>(cells, job),
-            Some(w) => {
-                if !right::<M>(cells, job, given, w) {
-                    return false;
-                }
-                if !give::<M>(cells, job, given, w) {
-                    return false;
-                }
-            }
-        }
-    }
-    false
+    Err(Wrong::Count)
 }
 
 // Fills the tables at random and enumerates the plans.
-fn run<M: Measure>(cells: &mut [Cell<M, M::Value>], job: &Job, seed: u64) -> bool
-    ensures { length cells.new ≡ length cells.old }
-{
-    if cells.len() != CELLS || job.len() != 3 {
-        return false;
+fn run<M: Measure>(cells: &mut [Cell<M, M::Value>], job: &Job, seed: u64) -> Result<(), Wrong> {
+    if cells.len() != CELLS || job.len() != STOPS {
+        return Err(Wrong::Setting);
     }
     fill::<M>(cells, seed);
-    fill_minima::<M>(cells, 3, job);
-    let_all_wait::<M>(cells, 3, job, 18, 28);
-    enumerated::<M>(cells, job)
+    fill_minima::<M>(cells, PLACES, job);
+    let_all_wait::<M>(cells, PLACES, job, BASE, WANTED);
+    enumerate::<M>(cells, job)
 }
 
 // Whether random tables have six plans or more, so that a comparison over them says something.
-fn many_plans<M: Measure>(cells: &mut [Cell<M, M::Value>], job: &Job, seed: u64) -> bool
-    ensures { length cells.new ≡ length cells.old }
-{
+fn many_plans<M: Measure>(cells: &mut [Cell<M, M::Value>], job: &Job, seed: u64) -> bool {
     if cells.len() != CELLS {
         return false;
     }
@@ -206,25 +169,6 @@ mod tests {
     use measures::longest::Longest;
     use measures::time::Time;
     use measures::values::{ClimbValue, LongestValue, TimeValue};
-    use std::marker::PhantomData;
-
-    fn cell<M, V: Copy>() -> Cell<M, V> {
-        Cell {
-            leg: None,
-            ride: None,
-            kind: 0,
-            own: None,
-            best: None,
-            hang: None,
-            entry: Entry {
-                score: None,
-                places: [0; 12],
-                depth: 0,
-                excluded: PlaceSet::empty(),
-            },
-            measure: PhantomData,
-        }
-    }
 
     fn tied(parent: u8, link: Link) -> Stop {
         Stop {
@@ -234,64 +178,57 @@ mod tests {
     }
 
     // Three stops: the second hangs on the root, the third on the root or on the second.
-    fn tree(parent: u8, first: Link, second: Link) -> Job {
-        let mut job = Job::new();
+    fn tree(parent: u8, first: Link, second: Link) -> Option<Job> {
         let mut draft = Draft::new();
-        if draft.push(Stop { kind: 0, tie: None }).is_ok()
-            && draft.push(tied(0, first)).is_ok()
-            && draft.push(tied(parent, second)).is_ok()
-            && job.put(draft).is_ok()
-        {
-            return job;
-        }
-        job
+        draft.push(Stop { kind: 0, tie: None }).ok()?;
+        draft.push(tied(0, first)).ok()?;
+        draft.push(tied(parent, second)).ok()?;
+        let mut job = Job::new();
+        job.put(draft).ok()?;
+        Some(job)
     }
 
     // Forty tables for each of two trees.
-    fn all_right<M: Measure>(cells: &mut [Cell<M, M::Value>]) -> bool {
-        let chain = tree(1, Link::Direct, Link::Ride);
-        let fork = tree(0, Link::Ride, Link::Direct);
+    fn run_all<M: Measure>(cells: &mut [Cell<M, M::Value>]) -> Result<(), Wrong> {
+        let chain = tree(1, Link::Direct, Link::Ride).ok_or(Wrong::Setting)?;
+        let fork = tree(0, Link::Ride, Link::Direct).ok_or(Wrong::Setting)?;
         for seed in 1..41 {
-            if !run::<M>(cells, &chain, seed) || !run::<M>(cells, &fork, seed) {
-                return false;
-            }
+            run::<M>(cells, &chain, seed)?;
+            run::<M>(cells, &fork, seed)?;
         }
-        true
+        Ok(())
     }
 
     // In how many of forty tables there are many plans.
-    fn plentiful<M: Measure>(cells: &mut [Cell<M, M::Value>]) -> usize {
-        let chain = tree(1, Link::Direct, Link::Ride);
-        let mut count: usize = 0;
-        for seed in 1..41 {
-            if many_plans::<M>(cells, &chain, seed) && count < 40 {
-                count += 1;
-            }
-        }
-        count
+    fn plentiful<M: Measure>(cells: &mut [Cell<M, M::Value>]) -> Option<usize> {
+        let chain = tree(1, Link::Direct, Link::Ride)?;
+        let count = (1..41)
+            .filter(|seed| many_plans::<M>(cells, &chain, *seed))
+            .count();
+        Some(count)
     }
 
     #[test]
     fn tables_have_plans(rt: HostRuntime) {
-        let mut cells = [cell::<Time, TimeValue>(); CELLS];
-        assert!(rt; plentiful::<Time>(&mut cells) >= 10);
+        let mut cells = [Cell::<Time, TimeValue>::blank(); CELLS];
+        assert!(rt; plentiful::<Time>(&mut cells) >= Some(10));
     }
 
     #[test]
     fn by_time(rt: HostRuntime) {
-        let mut cells = [cell::<Time, TimeValue>(); CELLS];
-        assert!(rt; all_right::<Time>(&mut cells));
+        let mut cells = [Cell::<Time, TimeValue>::blank(); CELLS];
+        assert_eq!(rt; run_all::<Time>(&mut cells), Ok(()));
     }
 
     #[test]
     fn by_longest(rt: HostRuntime) {
-        let mut cells = [cell::<Longest, LongestValue>(); CELLS];
-        assert!(rt; all_right::<Longest>(&mut cells));
+        let mut cells = [Cell::<Longest, LongestValue>::blank(); CELLS];
+        assert_eq!(rt; run_all::<Longest>(&mut cells), Ok(()));
     }
 
     #[test]
     fn by_climb(rt: HostRuntime) {
-        let mut cells = [cell::<Climb, ClimbValue>(); CELLS];
-        assert!(rt; all_right::<Climb>(&mut cells));
+        let mut cells = [Cell::<Climb, ClimbValue>::blank(); CELLS];
+        assert_eq!(rt; run_all::<Climb>(&mut cells), Ok(()));
     }
 }
