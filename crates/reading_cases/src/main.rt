@@ -5,11 +5,11 @@
 // In TEXT \t is byte 9, \n byte 10, \h byte 200, and \*N;c stands for N bytes c.
 #![tactic(auto)]
 
-use anyhow::{Context, bail};
+use anyhow::Context;
 use books::book::read_book;
 use books::line::Counts;
 use console::limit::admit;
-use faults::TextFault;
+use faults::{Text, TextFault};
 use job_texts::text::read_job;
 use jobs::job::Job;
 use jobs::stops::{Link, Stop, Tie};
@@ -49,7 +49,10 @@ fn unescape(out: &mut Vec<u8>, text: &str) -> anyhow::Result<()> {
         Some('n') => out.push(10)?,
         Some('h') => out.push(200)?,
         Some('*') => return repeat(out, rest.as_str()),
-        _ => bail!("no such letter after a backslash"),
+        _ => {
+            out.extend_from_slice(text.as_bytes())?;
+            return Ok(());
+        }
     }
     out.extend_from_slice(rest.as_str().as_bytes())?;
     Ok(())
@@ -115,9 +118,9 @@ impl Display for ShownStop {
 
 // A fault: its number, its line and field, and in which text it is.
 fn print_fault(rt: &HostRuntime, fault: TextFault) -> io::Result<()> {
-    let text = match fault {
-        TextFault::Book(_) => "book",
-        TextFault::Job(_) => "job",
+    let text = match fault.text {
+        Text::Book => "book",
+        Text::Job => "job",
     };
     println!(rt;
         "E {} {} {} in a {text}",
