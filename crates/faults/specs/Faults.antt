@@ -1,6 +1,7 @@
 -- What the faults of a text say: a number, a line and a field.
 use Rattle.std.specs.Prelude.{ℕ, ◌+◌, Some, None, Option}
 use Rattle.faults.specs.declared.Text.{Text}
+use Rattle.faults.specs.declared.Text.TheVariants.{Book as OfBook, Job as OfJob}
 use Rattle.faults.specs.declared.Spot.{Spot}
 use Rattle.faults.specs.declared.FieldWrong.{FieldWrong}
 use Rattle.faults.specs.declared.FieldWrong.TheVariants.{NotLetter, NotNumber, AboveBound, NotNextPlace, UntoldPlace, SameEnds, KindZero, NotNextStop, WrongParent, WrongLink}
@@ -14,6 +15,7 @@ use Rattle.faults.specs.declared.LineFault.TheVariants.{Field, Whole as WholeLin
 use Rattle.faults.specs.declared.Cause.{Cause}
 use Rattle.faults.specs.declared.Cause.TheVariants.{Whole as WholeText, Line}
 use Rattle.faults.specs.declared.TextFault.{TextFault}
+use Rattle.faults.specs.declared.TextFault.TheVariants.{Book, Job}
 
 -- the number that stands for each fault
 abbrev pub number_of_field : FieldWrong → ℕ
@@ -68,19 +70,24 @@ abbrev pub spot_of_cause : Cause → Option Spot
 spot_of_cause (WholeText w) = None
 spot_of_cause (Line f) = Some (spot_in_line f)
 
+abbrev pub cause_of : TextFault → Cause
+cause_of (Book c) = c
+cause_of (Job c) = c
+
 -- the number, line and field of a text's fault
 abbrev pub number_of : TextFault → ℕ
-number_of f = number_of_cause f.cause
+number_of f = number_of_cause (cause_of f)
 
 abbrev pub line_of : TextFault → ℕ
-line_of f = line_of_cause f.cause
+line_of f = line_of_cause (cause_of f)
 
 abbrev pub field_of : TextFault → ℕ
-field_of f = field_of_cause f.cause
+field_of f = field_of_cause (cause_of f)
 
 -- a fault of the text that the line stands in
 abbrev pub fault_in : Text → Cause → TextFault
-fault_in t c = record { text = t; cause = c }
+fault_in OfBook c = Book c
+fault_in OfJob c = Job c
 
 -- a line's fault lies whole inside its text's
 abbrev pub in_text : LineFault → TextFault

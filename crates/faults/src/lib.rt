@@ -3,7 +3,7 @@
 ghost use Rattle.std.specs.Prelude.{◌≡◌};
 ghost use Rattle.faults.specs.declared.LineFault.TheVariants.{Field};
 ghost use Rattle.faults.specs.declared.Cause.TheVariants.{Whole};
-ghost use Rattle.faults.specs.Faults.{text_of, in_text, fault_in, number_in_line, spot_in_line, number_of_cause, spot_of_cause, number_of, line_of, field_of, field_fault, line_fault, spot as spotAt};
+ghost use Rattle.faults.specs.Faults.{text_of, in_text, fault_in, number_in_line, spot_in_line, number_of_cause, spot_of_cause, cause_of, number_of, line_of, field_of, field_fault, line_fault, spot as spotAt};
 
 // Which of the two texts: a street book or a job.
 #[derive(Clone, Copy, Debug, PartialEq, Eq)]
@@ -84,11 +84,11 @@ pub enum Cause {
     Line(LineFault),
 }
 
-// The fault of a text, and which text it is.
+// The fault of a text, and which text it is: callers match on the case, so it is no struct of a text and a cause.
 #[derive(Clone, Copy, Debug, PartialEq, Eq)]
-pub struct TextFault {
-    pub text: Text,
-    pub cause: Cause,
+pub enum TextFault {
+    Book(Cause),
+    Job(Cause),
 }
 
 impl From<FieldFault> for LineFault {
@@ -103,22 +103,26 @@ impl From<LineFault> for TextFault {
     ghost from_gives = { λ f r. r ≡ in_text f };
 
     fn from(fault: LineFault) -> TextFault {
-        TextFault {
-            text: fault.spot().text,
-            cause: Cause::Line(fault),
-        }
+        fault.text().caused(Cause::Line(fault))
     }
 }
 
 impl Text {
+    // What is wrong in the text, by its cause.
+    fn caused(self, cause: Cause) -> TextFault
+        ensures { result ≡ fault_in self cause }
+    {
+        match self {
+            Text::Book => TextFault::Book(cause),
+            Text::Job => TextFault::Job(cause),
+        }
+    }
+
     // What is wrong with the text as a whole.
     pub fn fault(self, wrong: TextWrong) -> TextFault
         ensures { result ≡ fault_in self (Whole wrong) }
     {
-        TextFault {
-            text: self,
-            cause: Cause::Whole(wrong),
-        }
+        self.caused(Cause::Whole(wrong))
     }
 }
 
@@ -197,24 +201,33 @@ impl Cause {
 }
 
 impl TextFault {
+    // What is wrong, inside the text's fault.
+    fn cause(self) -> Cause
+        ensures { result ≡ cause_of self }
+    {
+        match self {
+            TextFault::Book(cause) | TextFault::Job(cause) => cause,
+        }
+    }
+
     // The number that stands for the fault.
     pub fn number(self) -> u8
         ensures { result ≡ number_of self }
     {
-        self.cause.number()
+        self.cause().number()
     }
 
     // The line of the fault, 0 for the whole text.
     pub fn line(self) -> usize
         ensures { result ≡ line_of self }
     {
-        self.cause.spot().map_or(0, |at| at.line)
+        self.cause().spot().map_or(0, |at| at.line)
     }
 
     // The field of the fault, 0 for the whole line.
     pub fn field(self) -> usize
         ensures { result ≡ field_of self }
     {
-        self.cause.spot().map_or(0, |at| at.field)
+        self.cause().spot().map_or(0, |at| at.field)
     }
 }

@@ -1,6 +1,5 @@
 -- How far a pass over the rows of a job text has come, and that its faults say job.
-use Rattle.std.proofs.Common.{◌≡◌, ℕ, eqb, ltb, List, ◌++◌, length, drop, Some, None, Ok, Err, Option, Result, sym, refl, ap, ◌∙◌}
-use Rattle.jobs.specs.declared.job.Draft.{Draft}
+use Rattle.std.proofs.Common.{ℕ, eqb, ltb, List, ◌++◌, length, drop, Some, None, Ok, Err, Option, Result, refl}
 use Rattle.jobs.specs.declared.stops.Stop.{Stop}
 use Rattle.faults.specs.declared.LineFault.{LineFault}
 use Rattle.faults.specs.declared.Spot.{Spot}
@@ -10,16 +9,11 @@ use Rattle.texts.specs.Rules.{is}
 use Rattle.texts.proofs.Says.{Says, either_says, then_says, number_says, dash_says}
 use Rattle.job_texts.specs.declared.line.StopLine.{StopLine}
 use Rattle.job_texts.specs.Lines.{link_of, tie_of, parts_of, judged, line_of}
-use Rattle.job_texts.specs.Texts.{drafted_in}
 
 -- the stops so far, joined to what is left to read
 abbrev pub after : List Stop → Result (List Stop) LineFault → Result (List Stop) LineFault
 after ss (Ok rest) = Ok (ss ++ rest)
 after ss (Err f) = Err f
-
--- what was not drafted was refused
-pub refused_is : (r : Result Draft LineFault) (all : Result (List Stop) LineFault) (f : LineFault) → drafted_in r ≡ all → r ≡ Err f → all ≡ Err f
-refused_is r all f e bad = sym e ∙ ap drafted_in bad
 
 -- a fault of a line says the text that the line stands in
 link_says : (s : Spot) (p : ℕ) (link : Option ℕ) → Says s.text (link_of s p link)
