@@ -9,7 +9,7 @@ use anyhow::Context;
 use books::book::read_book;
 use books::line::Counts;
 use console::limit::admit;
-use faults::{Text, TextFault};
+use faults::TextFault;
 use job_texts::text::read_job;
 use jobs::job::Job;
 use jobs::stops::{Link, Stop, Tie};
@@ -118,9 +118,9 @@ impl Display for ShownStop {
 
 // A fault: its number, its line and field, and in which text it is.
 fn print_fault(rt: &HostRuntime, fault: TextFault) -> io::Result<()> {
-    let text = match fault.text {
-        Text::Book => "book",
-        Text::Job => "job",
+    let text = match fault {
+        TextFault::Book(_) => "book",
+        TextFault::Job(_) => "job",
     };
     println!(rt;
         "E {} {} {} in a {text}",
