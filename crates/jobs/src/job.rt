@@ -6,7 +6,8 @@ use crate::stops::Stop;
 mod calls;
 
 // A list of up to twelve stops in which each keeps the rules: stop 0, the root, has no tie, and every other has a tie
-// to a parent with a smaller number.
+// to a parent with a smaller number. The stops stand in an array with their count beside it, since a draft and a job
+// are copied, which no list type of std or of arrayvec is.
 #[derive(Clone, Copy)]
 pub struct Draft {
     stops: [Stop; 12],

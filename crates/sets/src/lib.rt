@@ -8,7 +8,7 @@ use bits::{bit_of, count_bits, lowest_bit, with_bit};
 mod bits;
 
 // A set of places below 64 as one 64-bit number: place p stands at the bit of value 2^p.
-#[derive(Clone, Copy)]
+#[derive(Clone, Copy, Debug, PartialEq, Eq)]
 pub struct PlaceSet {
     bits: u64,
 }
