@@ -4,7 +4,7 @@ ghost use Rattle.std.specs.Prelude.{◌≡◌, ℕ};
 ghost use Rattle.std.specs.List.{slice_get};
 ghost use Rattle.jobs.specs.Jobs.{stops_of};
 ghost use Rattle.sets.specs.Sets.{has_bit};
-ghost use Rattle.choices.specs.Fits.{of_kind, fits, Chosen, Answered};
+ghost use Rattle.choices.specs.Fits.{fits, Chosen, Answered};
 
 use answers::{Choices, Refusal};
 use jobs::job::Job;
@@ -14,20 +14,14 @@ use streets::street::Street;
 
 pub mod answers;
 
-// Whether a place has a kind that the stop takes.
-fn has_kind<S: Street>(street: &S, place: usize, stop: Stop) -> bool
-    ensures { result ≡ of_kind (S.Street.meaning street.now) stop.kind place }
-{
-    stop.takes(street.kind(place))
-}
-
 // The set of the street's places that a stop takes.
+#[tactic(auto, using(crate::proofs::Grown::with_next, crate::proofs::Grown::without_next))]
 fn fitting<S: Street>(street: &S, stop: Stop) -> PlaceSet
     ensures { (p : ℕ) → has_bit result.bits p ≡ fits (S.Street.meaning street.now) stop.kind p }
 {
     let mut set = PlaceSet::empty();
     for place in 0..street.places() {
-        if has_kind(street, place, stop) {
+        if stop.takes(street.kind(place)) {
             set = set.with(place);
         }
     }

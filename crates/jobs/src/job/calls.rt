@@ -37,6 +37,7 @@ impl Draft {
     }
 
     // Takes up one more stop, or refuses and changes nothing.
+    #[tactic(auto, using(crate::proofs::Grown::front_more, crate::proofs::Grown::hung_more))]
     pub fn push(&mut self, stop: Stop) -> Result<(), Refused>
         ensures told { result ≡ judged (drafted self.old) stop }
         ensures written { MatchResult result (λ _. drafted self.new ≡ drafted self.old ++ stop ∷ []) (λ _. self.new ≡ self.old) }
