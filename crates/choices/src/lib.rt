@@ -15,7 +15,7 @@ use streets::street::Street;
 pub mod answers;
 
 // The set of the street's places that a stop takes.
-// A loop: a filter with a fold was tried and not proved, since `with` tells its result place by place and a fold asks for one function.
+// A loop: a filter with a fold was tried and not proved, as `with` says its result place by place only.
 #[tactic(auto, using(crate::proofs::Grown::with_next, crate::proofs::Grown::without_next))]
 fn fitting<S: Street>(street: &S, stop: Stop) -> PlaceSet
     ensures { (p : ℕ) → has_bit result.bits p ≡ fits (S.Street.meaning street.now) stop.kind p }
