@@ -1,7 +1,6 @@
 -- The last record of a list that tells a pair.
-use Rattle.std.proofs.Common.{◌≡◌, ℕ, zero, suc, ◌+◌, ◌<◌, true, false, cond, List, [], ◌∷◌, length, get_or, Some, None, Option, sym, refl, ap, ◌∙◌, arith}
+use Rattle.std.proofs.Common.{◌≡◌, ℕ, zero, suc, ◌<◌, true, false, cond, List, [], ◌∷◌, length, get_or, Some, None, sym, refl, ap, ◌∙◌, arith}
 use Rattle.std.proofs.lemmas.Bool.{cond-true, cond-false}
-use Rattle.streets.specs.declared.legs.Leg.{Leg}
 use Rattle.streets.specs.declared.legs.LegRecord.{LegRecord}
 use Rattle.streets.specs.Lists.{last_leg, later, tells}
 

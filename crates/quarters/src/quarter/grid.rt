@@ -15,6 +15,7 @@ pub enum QuarterRefusal {
     OutOfRange,
 }
 
+// A number that does not fit its field is outside its range.
 impl From<TryFromIntError> for QuarterRefusal {
     ghost from_gives = { λ e r. r ≡ OutOfRange };
 
@@ -85,6 +86,7 @@ impl Street for Quarter {
             return 0;
         }
         let (column, row) = self.crossing(place);
+        // the check proves that it fits, so a try_from would have an error that never comes
         (1 + (column + row) % usize::from(self.kinds)) as u8
     }
 
