@@ -4,7 +4,7 @@ ghost use Rattle.choices.specs.Fits.{number_of};
 use sets::PlaceSet;
 
 // The places that fit a stop.
-#[derive(Clone, Copy)]
+#[derive(Clone, Copy, Debug, PartialEq, Eq)]
 pub struct Choices {
     pub set: PlaceSet,
     // how many places are in the set
@@ -14,7 +14,7 @@ pub struct Choices {
 }
 
 // Why there is no answer.
-#[derive(Clone, Copy)]
+#[derive(Clone, Copy, Debug, PartialEq, Eq)]
 pub enum Refusal {
     // the job has no such stop
     NoSuchStop,

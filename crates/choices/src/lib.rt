@@ -4,29 +4,25 @@ ghost use Rattle.std.specs.Prelude.{◌≡◌, ℕ};
 ghost use Rattle.std.specs.List.{slice_get};
 ghost use Rattle.jobs.specs.Jobs.{stops_of};
 ghost use Rattle.sets.specs.Sets.{has_bit};
-ghost use Rattle.choices.specs.Fits.{of_kind, fits, Chosen, Answered};
+ghost use Rattle.choices.specs.Fits.{fits, Chosen, Answered};
 
 use answers::{Choices, Refusal};
 use jobs::job::Job;
+use jobs::stops::Stop;
 use sets::PlaceSet;
 use streets::street::Street;
 
 pub mod answers;
 
-// Whether a place has the kind that is asked for; kind 0 asks for any.
-fn has_kind<S: Street>(street: &S, place: usize, kind: u8) -> bool
-    ensures { result ≡ of_kind (S.Street.meaning street.now) kind place }
-{
-    kind == 0 || street.kind(place) == kind
-}
-
-// The set of the street's places that fit a kind.
-fn fitting<S: Street>(street: &S, kind: u8) -> PlaceSet
-    ensures { (p : ℕ) → has_bit result.bits p ≡ fits (S.Street.meaning street.now) kind p }
+// The set of the street's places that a stop takes.
+// A loop: a filter with a fold was tried and not proved, as `with` says its result place by place only.
+#[tactic(auto, using(crate::proofs::Grown::with_next, crate::proofs::Grown::without_next))]
+fn fitting<S: Street>(street: &S, stop: Stop) -> PlaceSet
+    ensures { (p : ℕ) → has_bit result.bits p ≡ fits (S.Street.meaning street.now) stop.kind p }
 {
     let mut set = PlaceSet::empty();
     for place in 0..street.places() {
-        if has_kind(street, place, kind) {
+        if stop.takes(street.kind(place)) {
             set = set.with(place);
         }
     }
@@ -34,10 +30,10 @@ fn fitting<S: Street>(street: &S, kind: u8) -> PlaceSet
 }
 
 // That set with its size and its least place.
-fn chosen<S: Street>(street: &S, kind: u8) -> Choices
-    ensures { Chosen (S.Street.meaning street.now) kind result }
+fn chosen<S: Street>(street: &S, stop: Stop) -> Choices
+    ensures { Chosen (S.Street.meaning street.now) stop.kind result }
 {
-    let set = fitting(street, kind);
+    let set = fitting(street, stop);
     Choices {
         set,
         size: set.size(),
@@ -49,8 +45,6 @@ fn chosen<S: Street>(street: &S, kind: u8) -> Choices
 pub fn choices<S: Street>(street: &S, job: &Job, stop: usize) -> Result<Choices, Refusal>
     ensures { Answered (S.Street.meaning street.now) (slice_get (stops_of job.now) stop) result }
 {
-    match job.stop(stop) {
-        Some(found) => Ok(chosen(street, found.kind)),
-        None => Err(Refusal::NoSuchStop),
-    }
+    let found = job.stop(stop).ok_or(Refusal::NoSuchStop)?;
+    Ok(chosen(street, found))
 }

@@ -1,7 +1,7 @@
 -- A list of stops that grows by one stop keeps its rules.
-use Rattle.std.proofs.Common.{◌≡◌, ℕ, ◌+◌, ◌<◌, ◌≤◌, true, List, [], ◌∷◌, ◌++◌, length, get_or, take, set, Some, None, sym, refl, ap, ◌∙◌, ⊎_elim, arith}
+use Rattle.std.proofs.Common.{◌≡◌, ℕ, ◌+◌, ◌<◌, true, List, [], ◌∷◌, ◌++◌, length, take, set, Some, None, sym, refl, ap, ◌∙◌, ⊎_elim, arith}
 use Rattle.std.specs.List.{slice_get}
-use Rattle.std.proofs.lemmas.List.{get_or_append_left, get_or_push, get_or-take, length_push, length-take-le, take_more_set}
+use Rattle.std.proofs.lemmas.List.{get_or_append_left, get_or_push, length_push, length-take-le, take_more_set}
 use Rattle.std.proofs.lemmas.Option.{slice_get-get_or, slice_get_past}
 use Rattle.std.proofs.lemmas.Bool.{cases_order}
 use Rattle.jobs.specs.declared.stops.Stop.{Stop}
@@ -34,14 +34,6 @@ module _ (ss : List Stop) (x : Stop) where
       (hung_new s y t e)
       (⊎_elim (λ h. hung s y (sym (nth_before s h) ∙ e)) (λ h. absurd (hung_past s y e h)))
       (cases_order s (length ss))
-
--- what stands at a place of a list's front
-pub nth_front : (ss : List Stop) (n s : ℕ) (d : Stop) → n ≤ length ss → s < n → slice_get (take n ss) s ≡ Some (get_or ss s d)
-nth_front ss n s d h k = slice_get-get_or (take n ss) s d (omega (arith, length-take-le n ss h)) ∙ ap Some (get_or-take n ss s d k)
-
--- nothing stands past it
-pub nth_behind : (ss : List Stop) (n s : ℕ) → n ≤ length ss → n ≤ s → slice_get (take n ss) s ≡ None
-nth_behind ss n s h k = slice_get_past (take n ss) s (omega (arith, length-take-le n ss h))
 
 -- the front of n stops with one more stop behind it
 pub front_more : (ss : List Stop) (n m : ℕ) (x : Stop) → n ≡ m → n < length ss → take (n + 1) (set ss n x) ≡ take m ss ++ x ∷ []

@@ -1,5 +1,5 @@
 -- The rules that the stops of a job keep.
-use Rattle.std.specs.Prelude.{◌≡◌, ℕ, ◌≤◌, Bool, true, cond, List, length, Some, None, Ok, Err, Option, Result, ◌==◌, nat_lt}
+use Rattle.std.specs.Prelude.{◌≡◌, ℕ, ◌≤◌, Bool, true, cond, List, length, Some, None, Ok, Err, Option, Result, ◌||◌, ◌==◌, nat_lt}
 use Rattle.std.specs.List.{slice_get}
 use Rattle.jobs.specs.declared.stops.Stop.{Stop}
 use Rattle.jobs.specs.declared.stops.Tie.{Tie}
@@ -9,6 +9,10 @@ use Rattle.jobs.specs.declared.stops.Refused.TheVariants.{Full, WrongTie, Empty}
 -- a stop of any kind that hangs on no other
 abbrev pub any_stop : Stop
 any_stop = record { kind = 0; tie = None }
+
+-- a place of this kind may stand for the stop: the stop's kind is 0, which means any, or the same
+abbrev pub takes : Stop → ℕ → Bool
+takes stop kind = stop.kind == 0 || stop.kind == kind
 
 -- how a stop hangs on its parent; the root, and what is no stop, has no tie
 abbrev pub tie_of : Option Stop → Option Tie

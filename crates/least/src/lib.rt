@@ -1,6 +1,6 @@
 #![tactic(auto)]
 
-ghost use Rattle.std.specs.Prelude.{◌≡◌, Bool, not};
+ghost use Rattle.std.specs.Prelude.{◌≡◌, Bool};
 ghost use Rattle.least.specs.Order.{Ordered, FirstLeast};
 
 use measures::Measure;
@@ -31,13 +31,6 @@ impl<M: Measure> TotalOrder for Element<M> {
     }
 }
 
-// Whether a comes before b and is no equal of it.
-fn strictly_before<T: TotalOrder>(a: &T, b: &T) -> bool
-    ensures { result ≡ not (T.TotalOrder.precedes b.now a.now) }
-{
-    !b.at_or_before(a)
-}
-
 // The index of the least entry; of equals the first; none for an empty list.
 pub fn least_of<T: TotalOrder>(xs: &[T]) -> Option<usize>
     ensures { FirstLeast T.TotalOrder.precedes xs.now result }
@@ -46,8 +39,8 @@ pub fn least_of<T: TotalOrder>(xs: &[T]) -> Option<usize>
         return None;
     }
     let mut best = 0;
-    for i in 1..xs.len() {
-        if strictly_before(&xs[i], &xs[best]) {
+    for (i, x) in xs.iter().enumerate() {
+        if !xs[best].at_or_before(x) {
             best = i;
         }
     }

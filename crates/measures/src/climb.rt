@@ -1,15 +1,16 @@
 ghost use Rattle.std.specs.Prelude.{◌≡◌};
-ghost use Rattle.measures.specs.Climb.{climb_of, is_zero, climb_meaning};
+ghost use Rattle.measures.specs.Climb.{climb_meaning};
 ghost use Rattle.std.proofs.Common.{rules};
 ghost use Rattle.measures.specs.Climbs.{climb_laws};
 
 use crate::Measure;
 use crate::shown::Shown;
-use crate::values::{ClimbValue, TOP, held};
+use crate::values::ClimbValue;
 
 // The metres climbed, and where those are equal the seconds.
 pub struct Climb;
 
+#[tactic(auto, using(crate::specs::Same::same_climb), unfolding(crate::specs::Climb::climb_of))]
 impl Measure for Climb {
     type Value = ClimbValue;
 
@@ -18,30 +19,41 @@ impl Measure for Climb {
     ghost lawful = { record { laws = climb_laws; showable = λ a. a.fits; named = Prim.search rules } };
 
     fn zero() -> ClimbValue {
-        of(0, 0)
+        ClimbValue {
+            climb: 0,
+            seconds: 0,
+        }
     }
 
     fn leg(climb: u16, seconds: u16) -> ClimbValue {
-        of(u64::from(climb), u64::from(seconds))
+        ClimbValue {
+            climb: u32::from(climb),
+            seconds: u32::from(seconds),
+        }
     }
 
     fn join(a: ClimbValue, b: ClimbValue) -> ClimbValue {
-        if is_zero(a) {
+        if a == Self::zero() {
             return b;
         }
-        if is_zero(b) {
+        if b == Self::zero() {
             return a;
         }
-        let climb = u64::from(a.climb) + u64::from(b.climb);
-        let seconds = u64::from(a.seconds) + u64::from(b.seconds);
-        if climb >= TOP {
-            return of(TOP, TOP);
+        let climb = a.climb.saturating_add(b.climb);
+        if climb == u32::MAX {
+            return ClimbValue {
+                climb: u32::MAX,
+                seconds: u32::MAX,
+            };
         }
-        of(climb, seconds)
+        ClimbValue {
+            climb,
+            seconds: a.seconds.saturating_add(b.seconds),
+        }
     }
 
     fn at_or_before(a: ClimbValue, b: ClimbValue) -> bool {
-        a.climb < b.climb || (a.climb == b.climb && a.seconds <= b.seconds)
+        a <= b
     }
 
     fn show(value: ClimbValue) -> Shown {
@@ -51,19 +63,4 @@ impl Measure for Climb {
     fn name<'a>() -> &'a str {
         "climb"
     }
-}
-
-fn of(climb: u64, seconds: u64) -> ClimbValue
-    ensures { result ≡ climb_of climb seconds }
-{
-    ClimbValue {
-        climb: held(climb),
-        seconds: held(seconds),
-    }
-}
-
-fn is_zero(a: ClimbValue) -> bool
-    ensures { result ≡ is_zero a }
-{
-    a.climb == 0 && a.seconds == 0
 }

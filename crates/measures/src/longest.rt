@@ -1,5 +1,5 @@
 ghost use Rattle.std.specs.Prelude.{◌≡◌};
-ghost use Rattle.measures.specs.Longest.{longest_of, longest_meaning};
+ghost use Rattle.measures.specs.Longest.{longest_meaning};
 ghost use Rattle.std.proofs.Common.{rules};
 ghost use Rattle.measures.specs.Numbers.{longest_laws};
 
@@ -10,6 +10,7 @@ use crate::values::LongestValue;
 // The longest of all legs, by seconds.
 pub struct Longest;
 
+#[tactic(auto, using(crate::specs::Same::same_longest), unfolding(crate::specs::Longest::longest_of))]
 impl Measure for Longest {
     type Value = LongestValue;
 
@@ -18,19 +19,21 @@ impl Measure for Longest {
     ghost lawful = { record { laws = longest_laws; showable = λ a. a.fits; named = Prim.search rules } };
 
     fn zero() -> LongestValue {
-        of(0)
+        LongestValue { seconds: 0 }
     }
 
     fn leg(_climb: u16, seconds: u16) -> LongestValue {
-        of(u32::from(seconds))
+        LongestValue {
+            seconds: u32::from(seconds),
+        }
     }
 
     fn join(a: LongestValue, b: LongestValue) -> LongestValue {
-        of(a.seconds.max(b.seconds))
+        a.max(b)
     }
 
     fn at_or_before(a: LongestValue, b: LongestValue) -> bool {
-        a.seconds <= b.seconds
+        a <= b
     }
 
     fn show(value: LongestValue) -> Shown {
@@ -40,10 +43,4 @@ impl Measure for Longest {
     fn name<'a>() -> &'a str {
         "longest"
     }
-}
-
-fn of(seconds: u32) -> LongestValue
-    ensures { result ≡ longest_of seconds }
-{
-    LongestValue { seconds }
 }

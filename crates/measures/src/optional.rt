@@ -7,8 +7,5 @@ use crate::Measure;
 pub fn join_options<M: Measure>(a: Option<M::Value>, b: Option<M::Value>) -> Option<M::Value>
     ensures { result ≡ both M.Measure.meaning.joined a b }
 {
-    match (a, b) {
-        (Some(x), Some(y)) => Some(M::join(x, y)),
-        _ => None,
-    }
+    Some(M::join(a?, b?))
 }

@@ -1,36 +1,26 @@
-ghost use Rattle.std.specs.Prelude.{◌≡◌, ◌≤◌, min};
+ghost use Rattle.std.specs.Prelude.{◌≤◌};
 
 // The values of the three measures. Every number in them is at most 4,294,967,295, and every such
-// number, or pair of numbers, is a value.
+// number, or pair of numbers, is a value. Values compare as the measures order them.
 
 // The time of some legs: their seconds, added up.
-#[derive(Clone, Copy)]
+#[derive(Clone, Copy, Debug, PartialEq, Eq, PartialOrd, Ord)]
 pub struct TimeValue {
     pub seconds: u32,
     ghost fits: { seconds ≤ 4294967295 },
 }
 
-// The longest of some legs, in seconds.
-#[derive(Clone, Copy)]
+// The longest of some legs, in seconds. It has a time's field, but each measure brings a value type of its own.
+#[derive(Clone, Copy, Debug, PartialEq, Eq, PartialOrd, Ord)]
 pub struct LongestValue {
     pub seconds: u32,
     ghost fits: { seconds ≤ 4294967295 },
 }
 
 // The climb of some legs in metres, and their seconds.
-#[derive(Clone, Copy)]
+#[derive(Clone, Copy, Debug, PartialEq, Eq, PartialOrd, Ord)]
 pub struct ClimbValue {
     pub climb: u32,
     pub seconds: u32,
     ghost fits: { (climb ≤ 4294967295) × (seconds ≤ 4294967295) },
-}
-
-// The top: no number in a value is above it.
-pub const TOP: u64 = 4294967295;
-
-// A number held at the top.
-pub fn held(n: u64) -> u32
-    ensures { result ≡ min n 4294967295 }
-{
-    n.min(TOP) as u32
 }

@@ -3,7 +3,7 @@ ghost use Rattle.std.specs.Prelude.{◌*◌, ◌≤◌};
 pub mod grid;
 
 // A quarter: a grid of crossings, each a place, with legs to its neighbours.
-#[derive(Clone, Copy)]
+#[derive(Clone, Copy, Debug, PartialEq, Eq)]
 pub struct Quarter {
     width: u8,
     height: u8,

@@ -3,18 +3,15 @@
 ghost use Rattle.std.specs.Prelude.{◌≡◌, ℕ, ◌≤◌, false, ◌&&◌, ◌||◌, ◌==◌, nat_lt};
 ghost use Rattle.sets.specs.Sets.{has_bit, count_to, Least};
 
-use bits::{bit_of, count_bits, lowest_bit, with_bit};
-
-mod bits;
-
 // A set of places below 64 as one 64-bit number: place p stands at the bit of value 2^p.
-#[derive(Clone, Copy)]
+#[derive(Clone, Copy, Debug, PartialEq, Eq)]
 pub struct PlaceSet {
     bits: u64,
 }
 
 impl PlaceSet {
     // The set without places.
+    #[tactic(auto, using(crate::proofs::Laws::has_none))]
     pub fn empty() -> PlaceSet
         ensures number { result.bits ≡ 0 }
         ensures none { (q : ℕ) → has_bit result.bits q ≡ false }
@@ -30,17 +27,16 @@ impl PlaceSet {
     }
 
     // Whether a place is in the set; none from 64 on is.
+    #[tactic(auto, using(crate::proofs::Laws::low_bit, crate::proofs::Laws::has_past), unfolding(crate::specs::Sets::has_bit))]
     pub fn has(self, place: usize) -> bool
         ensures told { result ≡ has_bit self.bits place }
         ensures outside { 64 ≤ place → result ≡ false }
     {
-        if place >= 64 {
-            return false;
-        }
-        bit_of(self.bits, place)
+        place < 64 && (self.bits >> place) & 1 == 1
     }
 
     // The set with one more place; a place from 64 on changes nothing.
+    #[tactic(auto, using(crate::proofs::Laws::has_set))]
     pub fn with(self, place: usize) -> PlaceSet
         ensures added { (q : ℕ) → has_bit result.bits q ≡ (has_bit self.bits q || (q == place && nat_lt place 64)) }
         ensures outside { 64 ≤ place → result ≡ self }
@@ -49,21 +45,23 @@ impl PlaceSet {
             return self;
         }
         PlaceSet {
-            bits: with_bit(self.bits, place),
+            bits: self.bits | (1 << place),
         }
     }
 
     // How many places are in the set.
+    #[tactic(auto, using(crate::proofs::Laws::ones_count))]
     pub fn size(self) -> u32
         ensures { result ≡ count_to (has_bit self.bits) 64 }
     {
-        count_bits(self.bits)
+        self.bits.count_ones()
     }
 
     // The least place in the set, 64 where it is empty.
+    #[tactic(auto, using(crate::proofs::Laws::trailing_least))]
     pub fn least(self) -> u32
         ensures { Least (has_bit self.bits) 64 result }
     {
-        lowest_bit(self.bits)
+        self.bits.trailing_zeros()
     }
 }

@@ -3,10 +3,12 @@
 // Examples of streets and choices, run as tests.
 #[cfg(test)]
 mod tests {
+    use choices::answers::Refusal;
     use choices::choices;
     use jobs::job::{Draft, Job};
     use jobs::stops::{Link, Stop, Tie};
     use quarters::quarter::Quarter;
+    use quarters::quarter::grid::QuarterRefusal;
     use std::test::Fail;
     use streets::legs::{Leg, LegRecord};
     use streets::list::ListStreet;
@@ -20,19 +22,14 @@ mod tests {
         }
     }
 
-    // The seconds of a leg, none as 99,999.
-    fn seconds(leg: Option<Leg>) -> u32 {
-        match leg {
-            Some(found) => u32::from(found.seconds),
-            None => 99_999,
-        }
+    // The seconds of a leg, if there is one.
+    fn seconds<S: Street>(street: &S, from: usize, to: usize) -> Option<u16> {
+        street.leg(from, to).map(|leg| leg.seconds)
     }
 
-    fn climb(leg: Option<Leg>) -> u32 {
-        match leg {
-            Some(found) => u32::from(found.climb),
-            None => 99_999,
-        }
+    // The climb of a leg, if there is one.
+    fn climb<S: Street>(street: &S, from: usize, to: usize) -> Option<u16> {
+        street.leg(from, to).map(|leg| leg.climb)
     }
 
     #[test]
@@ -47,10 +44,10 @@ mod tests {
         ];
         let street = ListStreet::new(&kinds, &records);
         assert_eq!(rt; street.places(), 3);
-        assert_eq!(rt; seconds(street.leg(0, 1)), 7);
-        assert_eq!(rt; seconds(street.leg(1, 0)), 6);
-        assert_eq!(rt; seconds(street.leg(2, 2)), 99_999);
-        assert_eq!(rt; seconds(street.leg(0, 3)), 99_999);
+        assert_eq!(rt; seconds(&street, 0, 1), Some(7));
+        assert_eq!(rt; seconds(&street, 1, 0), Some(6));
+        assert_eq!(rt; seconds(&street, 2, 2), None);
+        assert_eq!(rt; seconds(&street, 0, 3), None);
         assert_eq!(rt; street.kind(2), 3);
         assert_eq!(rt; street.kind(3), 0);
     }
@@ -65,8 +62,8 @@ mod tests {
         assert_eq!(rt; street.places(), 64);
         assert_eq!(rt; street.kind(63), 9);
         assert_eq!(rt; street.kind(64), 0);
-        assert_eq!(rt; seconds(street.leg(0, 1)), 5);
-        assert_eq!(rt; seconds(street.leg(2, 3)), 6);
+        assert_eq!(rt; seconds(&street, 0, 1), Some(5));
+        assert_eq!(rt; seconds(&street, 2, 3), Some(6));
     }
 
     #[test]
@@ -78,42 +75,53 @@ mod tests {
         assert_eq!(rt; street.kind(0), 1);
         assert_eq!(rt; street.kind(1), 2);
         assert_eq!(rt; street.kind(4), 1);
-        assert_eq!(rt; climb(street.leg(1, 4)), 5);
-        assert_eq!(rt; climb(street.leg(4, 1)), 0);
-        assert_eq!(rt; climb(street.leg(0, 1)), 0);
-        assert_eq!(rt; seconds(street.leg(2, 1)), 60);
-        assert_eq!(rt; seconds(street.leg(2, 3)), 99_999);
-        assert_eq!(rt; seconds(street.leg(0, 4)), 99_999);
+        assert_eq!(rt; climb(&street, 1, 4), Some(5));
+        assert_eq!(rt; climb(&street, 4, 1), Some(0));
+        assert_eq!(rt; climb(&street, 0, 1), Some(0));
+        assert_eq!(rt; seconds(&street, 2, 1), Some(60));
+        assert_eq!(rt; seconds(&street, 2, 3), None);
+        assert_eq!(rt; seconds(&street, 0, 4), None);
         Ok(())
     }
 
-    fn refused(width: u32, height: u32, kinds: u32, seconds: u32, climb: u32) -> u8 {
-        match Quarter::new(width, height, kinds, seconds, climb) {
-            Ok(_) => 0,
-            Err(refusal) => refusal.number(),
-        }
+    // Why no quarter is made of the numbers, none where one is.
+    fn refused(
+        width: u32,
+        height: u32,
+        kinds: u32,
+        seconds: u32,
+        climb: u32,
+    ) -> Option<QuarterRefusal> {
+        Quarter::new(width, height, kinds, seconds, climb).err()
     }
 
     #[test]
     fn a_quarter_keeps_its_ranges(rt: HostRuntime) {
-        assert_eq!(rt; refused(64, 1, 255, 65535, 65535), 0);
-        assert_eq!(rt; refused(8, 8, 1, 0, 0), 0);
-        assert_eq!(rt; refused(0, 1, 1, 0, 0), 51);
-        assert_eq!(rt; refused(1, 0, 1, 0, 0), 51);
-        assert_eq!(rt; refused(65, 1, 1, 0, 0), 51);
-        assert_eq!(rt; refused(13, 5, 1, 0, 0), 51);
-        assert_eq!(rt; refused(65536, 65536, 1, 0, 0), 51);
-        assert_eq!(rt; refused(1, 1, 0, 0, 0), 51);
-        assert_eq!(rt; refused(1, 1, 256, 0, 0), 51);
-        assert_eq!(rt; refused(1, 1, 1, 65536, 0), 51);
-        assert_eq!(rt; refused(1, 1, 1, 0, 65536), 51);
+        let out_of_range = Some(QuarterRefusal::OutOfRange);
+        assert_eq!(rt; refused(64, 1, 255, 65535, 65535), None);
+        assert_eq!(rt; refused(8, 8, 1, 0, 0), None);
+        assert_eq!(rt; refused(0, 1, 1, 0, 0), out_of_range);
+        assert_eq!(rt; refused(1, 0, 1, 0, 0), out_of_range);
+        assert_eq!(rt; refused(65, 1, 1, 0, 0), out_of_range);
+        assert_eq!(rt; refused(13, 5, 1, 0, 0), out_of_range);
+        assert_eq!(rt; refused(65536, 65536, 1, 0, 0), out_of_range);
+        assert_eq!(rt; refused(1, 1, 0, 0, 0), out_of_range);
+        assert_eq!(rt; refused(1, 1, 256, 0, 0), out_of_range);
+        assert_eq!(rt; refused(1, 1, 1, 65536, 0), out_of_range);
+        assert_eq!(rt; refused(1, 1, 1, 0, 65536), out_of_range);
+        assert_eq!(rt; QuarterRefusal::OutOfRange.number(), 51);
     }
 
-    // The set, size and least place of a stop's choices, or the refusal's number.
-    fn told<S: Street>(street: &S, job: &Job, stop: usize) -> (u64, u32, u32) {
-        match choices(street, job, stop) {
-            Ok(found) => (found.set.bits(), found.size, found.least),
-            Err(refusal) => (u64::from(refusal.number()), 0, 0),
+    // The set, size and least place of a stop's choices, or why there are none.
+    fn told<S: Street>(street: &S, job: &Job, stop: usize) -> Result<(u64, u32, u32), Refusal> {
+        choices(street, job, stop).map(|found| (found.set.bits(), found.size, found.least))
+    }
+
+    // A stop that hangs on another.
+    fn hung(kind: u8, parent: u8, link: Link) -> Stop {
+        Stop {
+            kind,
+            tie: Some(Tie { parent, link }),
         }
     }
 
@@ -123,34 +131,15 @@ mod tests {
         let street = ListStreet::new(&kinds, &[]);
         let mut draft = Draft::new();
         assert!(rt; draft.push(Stop { kind: 2, tie: None }).is_ok());
-        assert!(rt;
-            draft
-                .push(Stop {
-                    kind: 0,
-                    tie: Some(Tie {
-                        parent: 0,
-                        link: Link::Ride,
-                    }),
-                })
-                .is_ok()
-        );
-        assert!(rt;
-            draft
-                .push(Stop {
-                    kind: 3,
-                    tie: Some(Tie {
-                        parent: 1,
-                        link: Link::Direct,
-                    }),
-                })
-                .is_ok()
-        );
+        assert!(rt; draft.push(hung(0, 0, Link::Ride)).is_ok());
+        assert!(rt; draft.push(hung(3, 1, Link::Direct)).is_ok());
         let mut job = Job::new();
-        assert_eq!(rt; told(&street, &job, 0), (15, 4, 0));
+        assert_eq!(rt; told(&street, &job, 0), Ok((15, 4, 0)));
         assert!(rt; job.put(draft).is_ok());
-        assert_eq!(rt; told(&street, &job, 0), (6, 2, 1));
-        assert_eq!(rt; told(&street, &job, 1), (15, 4, 0));
-        assert_eq!(rt; told(&street, &job, 2), (0, 0, 64));
-        assert_eq!(rt; told(&street, &job, 3), (52, 0, 0));
+        assert_eq!(rt; told(&street, &job, 0), Ok((6, 2, 1)));
+        assert_eq!(rt; told(&street, &job, 1), Ok((15, 4, 0)));
+        assert_eq!(rt; told(&street, &job, 2), Ok((0, 0, 64)));
+        assert_eq!(rt; told(&street, &job, 3), Err(Refusal::NoSuchStop));
+        assert_eq!(rt; Refusal::NoSuchStop.number(), 52);
     }
 }

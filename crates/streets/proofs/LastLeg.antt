@@ -1,31 +1,19 @@
--- What one record more tells.
-use Rattle.std.proofs.Common.{◌≡◌, ℕ, ◌+◌, ◌<◌, Bool, true, false, cond, List, [], ◌∷◌, ◌++◌, length, get_or, take, Some, None, Option, sym, refl, ap, ◌∙◌}
-use Rattle.std.proofs.lemmas.List.{take_more}
-use Rattle.streets.specs.declared.legs.Leg.{Leg}
+-- The last record of a list that tells a pair.
+use Rattle.std.proofs.Common.{◌≡◌, ℕ, zero, suc, ◌<◌, true, false, cond, List, [], ◌∷◌, length, get_or, Some, None, sym, refl, ap, ◌∙◌, arith}
+use Rattle.std.proofs.lemmas.Bool.{cond-true, cond-false}
 use Rattle.streets.specs.declared.legs.LegRecord.{LegRecord}
 use Rattle.streets.specs.Lists.{last_leg, later, tells}
 
-later_assoc : (a b c : Option Leg) → later (later a b) c ≡ later a (later b c)
-later_assoc (Some x) b c = refl
-later_assoc None b c = refl
+-- no record tells the pair
+pub last_none : (rs : List LegRecord) (a b : ℕ) → ((k : ℕ) (d : LegRecord) → k < length rs → tells (get_or rs k d) a b ≡ false) → last_leg rs a b ≡ None
+last_none [] a b h = refl
+last_none (r ∷ rs) a b h = ap (λ o. later o (cond (tells r a b) (Some r.leg) None)) (last_none rs a b (λ k d l. h (suc k) d (omega arith))) ∙ cond-false _ _ _ (h 0 r (omega arith))
 
-later_none : (a : Option Leg) → later a None ≡ a
-later_none (Some x) = refl
-later_none None = refl
-
-abbrev told : LegRecord → ℕ → ℕ → Option Leg
-told r a b = cond (tells r a b) (Some r.leg) None
-
-last_push : (rs : List LegRecord) (r : LegRecord) (a b : ℕ) → last_leg (rs ++ (r ∷ [])) a b ≡ later (told r a b) (last_leg rs a b)
-last_push [] r a b = sym (later_none (told r a b))
-last_push (x ∷ rs) r a b = ap (λ o. later o (told x a b)) (last_push rs r a b) ∙ later_assoc (told r a b) (last_leg rs a b) (told x a b)
-
-module _ (rs : List LegRecord) (i : ℕ) (d : LegRecord) (a b : ℕ) (within : i < length rs) where
-  last_more : (t : Bool) → tells (get_or rs i d) a b ≡ t → last_leg (take (i + 1) rs) a b ≡ later (cond t (Some (get_or rs i d).leg) None) (last_leg (take i rs) a b)
-  last_more t e = ap (λ l. last_leg l a b) (take_more rs i d within) ∙ last_push (take i rs) (get_or rs i d) a b ∙ ap (λ u. later (cond u (Some (get_or rs i d).leg) None) (last_leg (take i rs) a b)) e
-
-  pub last_hit : tells (get_or rs i d) a b ≡ true → last_leg (take (i + 1) rs) a b ≡ Some (get_or rs i d).leg
-  last_hit e = last_more true e
-
-  pub last_miss : tells (get_or rs i d) a b ≡ false → last_leg (take (i + 1) rs) a b ≡ last_leg (take i rs) a b
-  last_miss e = last_more false e
+-- record i tells the pair, and none behind it does
+pub last_some : (rs : List LegRecord) (i : ℕ) (x : LegRecord) (a b : ℕ) → i < length rs → x ≡ get_or rs i x → tells x a b ≡ true → ((k : ℕ) (d : LegRecord) → i < k → k < length rs → tells (get_or rs k d) a b ≡ false) → last_leg rs a b ≡ Some x.leg
+last_some [] i x a b l e t h = absurd (omega arith)
+last_some (r ∷ rs) zero x a b l e t h =
+    ap (λ o. later o (cond (tells r a b) (Some r.leg) None)) (last_none rs a b (λ k d m. h (suc k) d (omega arith) (omega arith)))
+    ∙ ap (λ y. cond (tells y a b) (Some y.leg) None) (sym e) ∙ cond-true _ _ _ t
+last_some (r ∷ rs) (suc i) x a b l e t h =
+    ap (λ o. later o (cond (tells r a b) (Some r.leg) None)) (last_some rs i x a b (omega arith) e t (λ k d m n. h (suc k) d (omega arith) (omega arith)))

@@ -26,27 +26,21 @@ impl<'a> ListStreet<'a> {
 }
 
 // The records that count.
+#[tactic(auto, using(std::proofs::lemmas::List::take_min))]
 fn first_records(records: &[LegRecord]) -> &[LegRecord]
     ensures { result.now ≡ take 4096 records.now }
 {
-    if records.len() <= MOST_RECORDS {
-        records
-    } else {
-        &records[0..MOST_RECORDS]
-    }
+    &records[..MOST_RECORDS.min(records.len())]
 }
 
 // The leg of the last record that tells the pair.
 fn last_leg(records: &[LegRecord], from: usize, to: usize) -> Option<Leg>
     ensures { result ≡ last_leg records.now from to }
 {
-    let mut found = None;
-    for r in records {
-        if usize::from(r.from) == from && usize::from(r.to) == to {
-            found = Some(r.leg);
-        }
-    }
-    found
+    records
+        .iter()
+        .rfind(|r| usize::from(r.from) == from && usize::from(r.to) == to)
+        .map(|r| r.leg)
 }
 
 impl<'a> Street for ListStreet<'a> {
@@ -59,16 +53,13 @@ impl<'a> Street for ListStreet<'a> {
     }
 
     fn kind(&self, place: usize) -> u8 {
-        if place < self.kinds.len() && place < MOST_PLACES {
-            self.kinds[place]
-        } else {
-            0
-        }
+        let kinds = &self.kinds[..self.places()];
+        kinds.get(place).copied().unwrap_or(0)
     }
 
     fn leg(&self, from: usize, to: usize) -> Option<Leg> {
-        let n = self.places();
-        if from >= n || to >= n || from == to {
+        let places = self.places();
+        if from >= places || to >= places || from == to {
             return None;
         }
         last_leg(first_records(self.records), from, to)

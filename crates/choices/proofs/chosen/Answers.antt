@@ -12,6 +12,6 @@ returns g c =
     let has = has_bit c.fitting-set.result.bits in
     record {
       set = c.fitting-set.ensures;
-      size = c.size.ensures ∙ count_same has (fits m c.args.kind) 64 (λ k _. c.fitting-set.ensures k) ∙ count_below (of_kind m c.args.kind) m.places 64 few;
-      least = least_same has (fits m c.args.kind) 64 c.least.result c.fitting-set.ensures c.least.ensures;
+      size = c.size.ensures ∙ count_same has (fits m c.args.stop.kind) 64 (λ k _. c.fitting-set.ensures k) ∙ count_below (of_kind m c.args.stop.kind) m.places 64 few;
+      least = least_same has (fits m c.args.stop.kind) 64 c.least.result c.fitting-set.ensures c.least.ensures;
     }

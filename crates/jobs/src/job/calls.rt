@@ -6,13 +6,16 @@ ghost use Rattle.jobs.specs.Jobs.{drafted, stops_of};
 use super::{Draft, Job};
 use crate::stops::{Refused, Stop};
 
+// A stop of any kind that hangs on no other.
+const ANY: Stop = Stop { kind: 0, tie: None };
+
 impl Draft {
     // A draft without stops.
     pub fn new() -> Draft
         ensures { drafted result ≡ [] }
     {
         Draft {
-            stops: [Stop { kind: 0, tie: None }; 12],
+            stops: [ANY; 12],
             len: 0,
         }
     }
@@ -26,18 +29,15 @@ impl Draft {
         self.len
     }
 
-    // A stop by its number, none past the last.
-    fn stop(&self, s: usize) -> Option<Stop>
-        ensures { result ≡ slice_get (drafted self.now) s }
+    // The stops, in order.
+    fn stops(&self) -> &[Stop]
+        ensures { result.now ≡ drafted self.now }
     {
-        if s < self.len {
-            Some(self.stops[s])
-        } else {
-            None
-        }
+        &self.stops[..self.len]
     }
 
     // Takes up one more stop, or refuses and changes nothing.
+    #[tactic(auto, using(crate::proofs::Grown::front_more, crate::proofs::Grown::hung_more))]
     pub fn push(&mut self, stop: Stop) -> Result<(), Refused>
         ensures told { result ≡ judged (drafted self.old) stop }
         ensures written { MatchResult result (λ _. drafted self.new ≡ drafted self.old ++ stop ∷ []) (λ _. self.new ≡ self.old) }
@@ -63,7 +63,7 @@ impl Job {
     {
         Job {
             draft: Draft {
-                stops: [Stop { kind: 0, tie: None }; 12],
+                stops: [ANY; 12],
                 len: 1,
             },
         }
@@ -77,11 +77,18 @@ impl Job {
         self.draft.len()
     }
 
+    // The stops, in order.
+    pub fn stops(&self) -> &[Stop]
+        ensures { result.now ≡ stops_of self.now }
+    {
+        self.draft.stops()
+    }
+
     // A stop by its number, none past the last.
     pub fn stop(&self, s: usize) -> Option<Stop>
         ensures { result ≡ slice_get (stops_of self.now) s }
     {
-        self.draft.stop(s)
+        self.stops().get(s).copied()
     }
 
     // Puts the draft's stops in the place of the job's and tells how many they are; an empty draft is refused and

@@ -1,16 +1,27 @@
 ghost use Rattle.std.specs.Prelude.{◌≡◌, true, false, MatchResult};
-ghost use Rattle.quarters.specs.Grid.{within as inside, in_range, grid_meaning};
+ghost use Rattle.quarters.specs.Grid.{column, row, in_range, grid_meaning};
 ghost use Rattle.quarters.specs.Quarters.{grid, grid_of, number_of};
 ghost use Rattle.quarters.specs.Sounds.{grid_sound};
+ghost use Rattle.quarters.specs.declared.quarter.grid.QuarterRefusal.TheVariants.{OutOfRange};
 
 use crate::quarter::Quarter;
+use std::num::TryFromIntError;
 use streets::legs::Leg;
 use streets::street::Street;
 
 // Why no quarter was made: a number is outside its range.
-#[derive(Clone, Copy)]
+#[derive(Clone, Copy, Debug, PartialEq, Eq)]
 pub enum QuarterRefusal {
     OutOfRange,
+}
+
+// A number that does not fit its field is outside its range.
+impl From<TryFromIntError> for QuarterRefusal {
+    ghost from_gives = { λ e r. r ≡ OutOfRange };
+
+    fn from(_error: TryFromIntError) -> QuarterRefusal {
+        QuarterRefusal::OutOfRange
+    }
 }
 
 impl QuarterRefusal {
@@ -22,25 +33,6 @@ impl QuarterRefusal {
             QuarterRefusal::OutOfRange => 51,
         }
     }
-}
-
-// Whether x is at least low and at most high.
-fn within(low: u32, x: u32, high: u32) -> bool
-    ensures { result ≡ inside low x high }
-{
-    low <= x && x <= high
-}
-
-// Whether a quarter can be made of these numbers.
-fn in_range(width: u32, height: u32, kinds: u32, seconds: u32, climb: u32) -> bool
-    ensures { result ≡ in_range (grid width height kinds seconds climb) }
-{
-    within(1, width, 64)
-        && within(1, height, 64)
-        && width * height <= 64
-        && within(1, kinds, 255)
-        && seconds <= 65535
-        && climb <= 65535
 }
 
 impl Quarter {
@@ -55,16 +47,28 @@ impl Quarter {
     ) -> Result<Quarter, QuarterRefusal>
         ensures { MatchResult result (λ q. (grid_of q ≡ grid width height kinds seconds climb) × (in_range (grid width height kinds seconds climb) ≡ true)) (λ _. in_range (grid width height kinds seconds climb) ≡ false) }
     {
-        if !in_range(width, height, kinds, seconds, climb) {
+        if !(1..=64).contains(&width)
+            || !(1..=64).contains(&height)
+            || width * height > 64
+            || kinds == 0
+        {
             return Err(QuarterRefusal::OutOfRange);
         }
         Ok(Quarter {
-            width: width as u8,
-            height: height as u8,
-            kinds: kinds as u8,
-            seconds: seconds as u16,
-            climb: climb as u16,
+            width: u8::try_from(width)?,
+            height: u8::try_from(height)?,
+            kinds: u8::try_from(kinds)?,
+            seconds: u16::try_from(seconds)?,
+            climb: u16::try_from(climb)?,
         })
+    }
+
+    // The column and the row of a place.
+    fn crossing(&self, place: usize) -> (usize, usize)
+        ensures { result ≡ (column (grid_of self.now) place, row (grid_of self.now) place) }
+    {
+        let width = usize::from(self.width);
+        (place % width, place / width)
     }
 }
 
@@ -81,25 +85,24 @@ impl Street for Quarter {
         if place >= self.places() {
             return 0;
         }
-        let width = usize::from(self.width);
-        (1 + (place % width + place / width) % usize::from(self.kinds)) as u8
+        let (column, row) = self.crossing(place);
+        // the check proves that it fits, so a try_from would have an error that never comes
+        (1 + (column + row) % usize::from(self.kinds)) as u8
     }
 
     fn leg(&self, from: usize, to: usize) -> Option<Leg> {
         if from >= self.places() || to >= self.places() {
             return None;
         }
-        let width = usize::from(self.width);
-        let (from_column, from_row) = (from % width, from / width);
-        let (to_column, to_row) = (to % width, to / width);
+        let (from_column, from_row) = self.crossing(from);
+        let (to_column, to_row) = self.crossing(to);
         if from_column == to_column && from_row + 1 == to_row {
             Some(Leg {
                 climb: self.climb,
                 seconds: self.seconds,
             })
         } else if (from_column == to_column && to_row + 1 == from_row)
-            || (from_row == to_row
-                && (from_column + 1 == to_column || to_column + 1 == from_column))
+            || (from_row == to_row && from_column.abs_diff(to_column) == 1)
         {
             Some(Leg {
                 climb: 0,
