@@ -1,4 +1,4 @@
-ghost use Rattle.std.specs.Prelude.{◌≡◌, ℕ, ◌+◌, ◌<◌, length, None, Option, ◌≢◌};
+ghost use Rattle.std.specs.Prelude.{◌≡◌, ℕ, ◌+◌, ◌<◌, length, None, Option, ◌≢◌, slice_set};
 ghost use Rattle.jobs.specs.Jobs.{stops_of};
 ghost use Rattle.trees.specs.Tasks.{Task};
 ghost use Rattle.cells.specs.Cells.{places_of};
@@ -22,7 +22,7 @@ fn fill_rest<M: Measure>(board: &Board<'_, M, M::Value>, places: &mut [u8; 12], 
 {
     for i in depth + 1..board.job.len() {
         let prefix = Prefix {
-            board: *board,
+            board: &*board,
             places: &*places,
             i,
         };
@@ -31,19 +31,29 @@ fn fill_rest<M: Measure>(board: &Board<'_, M, M::Value>, places: &mut [u8; 12], 
     }
 }
 
+// These places, with another one for stop i.
+fn with_place(from: &[u8; 12], i: usize, place: u8) -> [u8; 12]
+    requires { i < 12 }
+    ensures told { result ≡ slice_set from.now i place }
+    ensures within { i < length from.now }
+{
+    let mut places = *from;
+    places[i] = place;
+    places
+}
+
 // The same as `first_plan`, where there are places.
 fn first_at_places<M: Measure>(
     prefix: &Prefix<'_, M, M::Value>,
     excluded: PlaceSet,
 ) -> Entry<M::Value>
-    requires { 0 < prefix.now.board.n }
-    ensures { FirstIn M.Measure.meaning prefix.now.board.cells.now prefix.now.board.n (stops_of prefix.now.board.job.now) prefix.now.places.now prefix.now.i excluded result }
+    requires { 0 < prefix.now.board.now.n }
+    ensures { let b = prefix.now.board.now in FirstIn M.Measure.meaning b.cells.now b.n (stops_of b.job.now) prefix.now.places.now prefix.now.i excluded result }
 {
     let depth = prefix.i;
-    let mut places = *prefix.places;
     let top = prefix.pick(excluded);
-    places[depth] = top.place;
-    fill_rest::<M>(&prefix.board, &mut places, depth);
+    let mut places = with_place(prefix.places, depth, top.place);
+    fill_rest::<M>(prefix.board, &mut places, depth);
     Entry {
         score: top.value,
         places,
@@ -58,7 +68,7 @@ pub fn first_plan<M: Measure>(
     prefix: &Prefix<'_, M, M::Value>,
     excluded: PlaceSet,
 ) -> Entry<M::Value>
-    ensures { FirstIn M.Measure.meaning prefix.now.board.cells.now prefix.now.board.n (stops_of prefix.now.board.job.now) prefix.now.places.now prefix.now.i excluded result }
+    ensures { let b = prefix.now.board.now in FirstIn M.Measure.meaning b.cells.now b.n (stops_of b.job.now) prefix.now.places.now prefix.now.i excluded result }
 {
     if prefix.board.n == 0 {
         return Entry {
