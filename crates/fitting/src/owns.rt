@@ -13,7 +13,7 @@ ghost use Rattle.fitting.specs.Owns.{own_by, Owned};
 use cells::cell::Cell;
 use jobs::job::Job;
 use measures::Measure;
-use tables::access::{kind_at, set_own, stop_place};
+use tables::access::{place_at, set_own, stop_place};
 
 // The kind that a stop wants; past the last stop any.
 fn wanted_kind(job: &Job, s: usize) -> u8
@@ -43,7 +43,7 @@ fn own_value<M: Measure>(
     requires { Ready cells.now n (stops_of job.now) × (q < n) }
     ensures { result ≡ own_by M.Measure.meaning cells.now n (stops_of job.now) s q }
 {
-    if kind_fits(wanted_kind(job, s), kind_at(cells, n, q)) {
+    if kind_fits(wanted_kind(job, s), place_at(cells, n, q).kind) {
         Some(M::zero())
     } else {
         None

@@ -14,7 +14,7 @@ use cells::order::entry_at_or_before;
 use jobs::job::Job;
 use least::least_of;
 use measures::Measure;
-use tables::access::{entry_at, set_entry};
+use tables::access::{cell_at, set_entry};
 use waiting::queue::row_start;
 
 // The least of the waiting subspaces in the cells from one to another, counted from the first of them; none where
@@ -34,8 +34,8 @@ fn exchange<M, V: Copy>(cells: &mut [Cell<M, V>], a: usize, b: usize)
     requires { (a < length cells.old) × (b < length cells.old) }
     ensures { Exchanged cells.old cells.new a b }
 {
-    let one = entry_at(cells, a);
-    let other = entry_at(cells, b);
+    let one = cell_at(cells, a).entry;
+    let other = cell_at(cells, b).entry;
     set_entry(cells, b, one);
     set_entry(cells, a, other);
 }
@@ -45,8 +45,8 @@ fn comes_after<M: Measure>(cells: &[Cell<M, M::Value>], a: usize, b: usize) -> b
     requires { (a < length cells.now) × (b < length cells.now) }
     ensures { result ≡ not (entry_before M.Measure.meaning.before (entry_in cells.now a) (entry_in cells.now b)) }
 {
-    let one = entry_at(cells, a);
-    let other = entry_at(cells, b);
+    let one = cell_at(cells, a).entry;
+    let other = cell_at(cells, b).entry;
     !entry_at_or_before::<M>(&one, &other)
 }
 
@@ -122,7 +122,7 @@ fn with_plan<M, V: Copy>(cells: &[Cell<M, V>], base: usize, w: usize) -> Option<
     requires { (base ≤ 4864) × (w ≤ 256) × (base + w < length cells.now) }
     ensures { MatchOption result ((entry_in cells.now (base + w)).score ≡ None) (λ v. (v ≡ w) × ((entry_in cells.now (base + w)).score ≢ None)) }
 {
-    let entry = entry_at(cells, base + w);
+    let entry = cell_at(cells, base + w).entry;
     match entry.score {
         None => None,
         Some(_) => Some(w),

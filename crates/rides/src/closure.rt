@@ -9,7 +9,7 @@ use crate::pairs::set_ride;
 use cells::cell::Cell;
 use measures::Measure;
 use measures::optional::join_options;
-use tables::access::ride_at;
+use tables::access::pair_at;
 
 // The lesser of two values, where each may be missing.
 pub fn lesser_option<M: Measure>(a: Option<M::Value>, b: Option<M::Value>) -> Option<M::Value>
@@ -41,8 +41,8 @@ fn relax<M: Measure>(
     ensures rides { Written ride_in n i j (lesser M.Measure.meaning.before (ride_in cells.old n i j) (both M.Measure.meaning.joined (Some first) (ride_in cells.old n k j))) cells.old cells.new }
     ensures kept { RidesOnly n cells.old cells.new }
 {
-    let through = join_options::<M>(Some(first), ride_at(cells, n, k, j));
-    let best = lesser_option::<M>(ride_at(cells, n, i, j), through);
+    let through = join_options::<M>(Some(first), pair_at(cells, n, k, j).ride);
+    let best = lesser_option::<M>(pair_at(cells, n, i, j).ride, through);
     set_ride(cells, n, i, j, best);
 }
 
@@ -52,7 +52,7 @@ fn relax_row<M: Measure>(cells: &mut [Cell<M, M::Value>], n: usize, k: usize, i:
     ensures rides { (s : StreetMeaning) → Mid M.Measure.meaning s n k i 0 (ride_in cells.old n) → Mid M.Measure.meaning s n k (i + 1) 0 (ride_in cells.new n) }
     ensures kept { RidesOnly n cells.old cells.new }
 {
-    let Some(first) = ride_at(cells, n, i, k) else {
+    let Some(first) = pair_at(cells, n, i, k).ride else {
         return;
     };
     for j in 0..n {

@@ -14,7 +14,7 @@ use measures::optional::join_options;
 use minima::links::{link_at, parent_at};
 use minima::subtrees::fill_minima;
 use sets::PlaceSet;
-use tables::access::{entry_at, own_at};
+use tables::access::{cell_at, stop_at};
 use waiting::opening::let_all_wait;
 
 // Three places, three stops, 28 plans wanted: 9 pairs, 9 stops at places, 84 waiting entries.
@@ -74,10 +74,13 @@ fn laid_out<M: Measure>(cells: &[Cell<M, M::Value>], job: &Job, q: usize) -> Ent
     let b = q / 3 % 3;
     let c = q % 3;
     let above = if parent_at(job, 2) == 0 { a } else { b };
-    let first = own_at(cells, 3, 3, 0, a);
-    let second = join_options::<M>(own_at(cells, 3, 3, 1, b), link_at(cells, 3, job, 1, a, b));
+    let first = stop_at(cells, 3, 3, 0, a).own;
+    let second = join_options::<M>(
+        stop_at(cells, 3, 3, 1, b).own,
+        link_at(cells, 3, job, 1, a, b),
+    );
     let third = join_options::<M>(
-        own_at(cells, 3, 3, 2, c),
+        stop_at(cells, 3, 3, 2, c).own,
         link_at(cells, 3, job, 2, above, c),
     );
     let score = join_options::<M>(first, join_options::<M>(second, third));
@@ -133,7 +136,7 @@ fn give<M: Measure>(cells: &mut [Cell<M, M::Value>], job: &Job, rows: usize, w: 
     if rows >= 28 || w > rows {
         return false;
     }
-    let plan = entry_at(cells, 18 + w);
+    let plan = cell_at(cells, 18 + w).entry;
     if plan.depth >= 3 || plan.places[0] >= 3 || plan.places[1] >= 3 || plan.places[2] >= 3 {
         return false;
     }
@@ -148,7 +151,7 @@ fn right<M: Measure>(cells: &[Cell<M, M::Value>], job: &Job, number: usize, w: u
     if w >= 28 {
         return false;
     }
-    let plan = entry_at(cells, 18 + w);
+    let plan = cell_at(cells, 18 + w).entry;
     rank::<M>(cells, job, &plan) == number
 }
 

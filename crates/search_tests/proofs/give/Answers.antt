@@ -27,7 +27,7 @@ advance-requires g c = let V = g.row.M-Value.Denot in let m = c.requires.1 in le
   room = omega arith;
   row = omega arith;
   head = c.if-w-rows.false;
-  deep = subst (λ (e : Entry V). e.depth < length (stops_of c.args.job.now)) c.entry_at-plan.ensures (let d = c.if-plan-ge3.false in omega arith);
-  placed = subst (λ (e : Entry V). (t : ℕ) → t < length (stops_of c.args.job.now) → places_of e.places t < 3) c.entry_at-plan.ensures
-      (λ t l. three c.entry_at-plan.result.places c.if-plan-ge3-2.false c.if-plan-ge3-3.false c.if-plan-ge3-4.false t (omega arith));
+  deep = subst (λ (e : Entry V). e.depth < length (stops_of c.args.job.now)) c.cell_at.ensures.waiting (let d = c.if-plan-ge3.false in omega arith);
+  placed = subst (λ (e : Entry V). (t : ℕ) → t < length (stops_of c.args.job.now) → places_of e.places t < 3) c.cell_at.ensures.waiting
+      (λ t l. three c.cell_at.result.now.entry.places c.if-plan-ge3-2.false c.if-plan-ge3-3.false c.if-plan-ge3-4.false t (omega arith));
 }

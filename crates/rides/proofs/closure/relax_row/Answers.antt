@@ -8,7 +8,7 @@ use Rattle.rides.proofs.closure.relax_row.Goals as goal
 
 pub returns-in_default : goal.returns-in_default
 returns-in_default g c = record {
-  rides = λ s mid. row_skip g.M.Measure.meaning g.met.M.Measure.lawful.laws s c.args.n c.args.k c.requires.1 c.args.i _ c.requires.0 (sym c.ride_at.ensures ∙ c.in_default.is) mid;
+  rides = λ s mid. row_skip g.M.Measure.meaning g.met.M.Measure.lawful.laws s c.args.n c.args.k c.requires.1 c.args.i _ c.requires.0 (sym c.pair_at.ensures.ride ∙ c.in_default.is) mid;
   kept = ((λ _ _. refl), (λ _. refl), refl);
 }
 
@@ -18,7 +18,7 @@ loop-j-preserved g c =
     let n = c.args.n in
     let old = c.args.cells.now in
     let first = c.in-Some.first in
-    let way : ride_in old n c.args.i c.args.k ≡ Some first = sym c.ride_at.ensures ∙ c.in-Some.is in (
+    let way : ride_in old n c.args.i c.args.k ≡ Some first = sym c.pair_at.ensures.ride ∙ c.in-Some.is in (
       (λ s mid. mid_step m g.met.M.Measure.lawful.laws s n c.args.k c.requires.1 c.args.i c.loop-j.j c.requires.0 c.loop-j-test.true (Some first)
           (ride_in c.loop-j.cells n) (ride_in c.relax.new.cells n)
           (λ x e. mid.some_walk c.args.i c.args.k c.requires.0 c.requires.1 x (way ∙ e))
