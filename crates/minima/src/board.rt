@@ -1,12 +1,12 @@
 ghost use Rattle.std.specs.Prelude.{◌≡◌, ◌<◌, length};
 ghost use Rattle.jobs.specs.Jobs.{stops_of};
-ghost use Rattle.tables.specs.Tables.{own_in, best_in, hang_in};
+ghost use Rattle.tables.specs.Tables.{kind_in, own_in, best_in, hang_in};
 ghost use Rattle.minima.specs.Tables.{Ready, link_in};
 
 use crate::links::link_at;
 use cells::cell::Cell;
 use jobs::job::Job;
-use tables::access::stop_at;
+use tables::access::{place_at, stop_at};
 
 // The tables of a job over n places, read from lent cells.
 #[derive(Drop)]
@@ -51,6 +51,14 @@ impl<'a, M, V: Copy> Board<'a, M, V> {
         ensures { result ≡ hang_in self.now.cells.now self.now.n s p }
     {
         self.stop(s, p).hang
+    }
+
+    // The kind of a place.
+    pub fn kind(&self, p: usize) -> u8
+        requires { p < self.now.n }
+        ensures { result ≡ kind_in self.now.cells.now self.now.n p }
+    {
+        place_at(self.cells, self.n, p).kind
     }
 
     // The value of a stop's link from its parent's place to its own.

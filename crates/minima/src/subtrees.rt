@@ -103,8 +103,7 @@ fn fill_rows<M: Measure>(cells: &mut [Cell<M, M::Value>], n: usize, job: &Job, m
     ensures stays { Stays cells.old cells.new }
     ensures rows { (s : ℕ) → s < length (stops_of job.now) → RowIn M.Measure.meaning cells.new n (stops_of job.now) s }
 {
-    for i in 0..m {
-        let s = m - 1 - i;
+    for s in (0..m).rev() {
         fill_best::<M>(cells, n, job, s);
         fill_hang::<M>(cells, n, job, s);
     }

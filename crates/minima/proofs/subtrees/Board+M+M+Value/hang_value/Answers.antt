@@ -6,12 +6,9 @@ use Rattle.jobs.specs.Jobs.{stops_of}
 use Rattle.tables.specs.Tables.{best_in}
 use Rattle.minima.specs.Tables.{link_in}
 use Rattle.trees.proofs.Lift.{lifted}
-use Rattle.trees.proofs.Bounds.{least_none, least_more}
+use Rattle.trees.proofs.Bounds.{least_more}
 use Rattle.minima.proofs.Rows.{least_at}
 use Rattle.minima.proofs.subtrees.Board+M+M+Value.hang_value.Goals as goal
-
-pub loop-q-init : goal.loop-q-init
-loop-q-init g c k e = least_at e (least_none (optional g.M.Measure.meaning) _)
 
 pub loop-q-preserved : goal.loop-q-preserved
 loop-q-preserved g c k e' = let m = g.M.Measure.meaning in let V = g.row.M-Value.Denot in
