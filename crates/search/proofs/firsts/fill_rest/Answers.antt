@@ -16,10 +16,7 @@ loop-i-preserved g c = let m = g.M.Measure.meaning in let told = c.len-i-end.ens
           c.loop-i.places c.args.depth excluded c.empty.result.bits c.loop-i.i v c.pick-next.result lt l within some c.empty.ensures.none (c.loop-i.invariant.2 τ H excluded v tables some found) (c.pick-next.ensures.picks τ H tables),
     )
 
-pub returns : goal.returns
-returns g c = let m = g.M.Measure.meaning in let told = c.len-i-end.ensures.told in
-    let d : c.args.depth + 1 ≤ c.len-i-end.result = (let d' = c.requires.0 in omega arith) in let e : c.loop-i.i ≡ length (stops_of c.args.board.now.job.now) = omega (arith, c.loop-i.auto.i-end (omega arith)) in record {
-      same = c.loop-i.invariant.1;
-      small = λ t l. c.loop-i.invariant.0 t (omega arith);
-      found = λ τ H excluded v tables some found. subst (λ (k : ℕ). Finding m τ H c.args.depth excluded v k c.loop-i.places) e (c.loop-i.invariant.2 τ H excluded v tables some found);
-    }
+pub returns-clause-found : goal.returns-clause-found
+returns-clause-found g c = λ τ H excluded v tables some found. let told = c.len-i-end.ensures.told in
+    let d : c.args.depth + 1 ≤ c.len-i-end.result = (let d' = c.requires.0 in omega arith) in let e : c.loop-i.i ≡ length (stops_of c.args.board.now.job.now) = omega (arith, c.loop-i.auto.i-end (omega arith)) in
+    subst (λ (k : ℕ). Finding g.M.Measure.meaning τ H c.args.depth excluded v k c.loop-i.places) e (c.loop-i.invariant.2 τ H excluded v tables some found)
