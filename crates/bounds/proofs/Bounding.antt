@@ -25,16 +25,6 @@ use Rattle.cells.specs.Cells.{places_of}
 same_cond : {W : Type 0} (s i p : ℕ) (a a' b b' d : W) → (s < i → a ≡ a') → (i ≤ s → p < i → b ≡ b') → cond (ltb s i) a (cond (ltb p i) b d) ≡ cond (ltb s i) a' (cond (ltb p i) b' d)
 same_cond s i p a a' b b' d h k = grind (arith, nat_tests)
 
--- which of the three a term is
-pub term_placed : {W : Type 0} (s i p : ℕ) (a b d : W) → s < i → a ≡ cond (ltb s i) a (cond (ltb p i) b d)
-term_placed s i p a b d h = grind (arith, nat_tests)
-
-pub term_hung : {W : Type 0} (s i p : ℕ) (a b d : W) → i ≤ s → p < i → b ≡ cond (ltb s i) a (cond (ltb p i) b d)
-term_hung s i p a b d h k = grind (arith, nat_tests)
-
-pub term_none : {W : Type 0} (s i p : ℕ) (a b d : W) → i ≤ s → i ≤ p → d ≡ cond (ltb s i) a (cond (ltb p i) b d)
-term_none s i p a b d h k = grind (arith, nat_tests)
-
 same_root : {W : Type 0} (s : ℕ) (a a' b b' : W) → (s ≡ 0 → a ≡ a') → (0 < s → b ≡ b') → cond (eqb s 0) a b ≡ cond (eqb s 0) a' b'
 same_root s a a' b b' h k = grind (arith, nat_tests)
 

@@ -13,7 +13,8 @@ ghost use Rattle.fitting.specs.Owns.{own_by, Owned};
 use cells::cell::Cell;
 use jobs::job::Job;
 use measures::Measure;
-use tables::access::{kind_at, set_own, stop_place};
+use minima::board::Board;
+use tables::access::{set_own, stop_place};
 
 // The kind that a stop wants; past the last stop any.
 fn wanted_kind(job: &Job, s: usize) -> u8
@@ -33,17 +34,11 @@ fn kind_fits(wanted: u8, kind: u8) -> bool
 }
 
 // The own value of a stop at a place: zero where the place fits, none elsewhere.
-fn own_value<M: Measure>(
-    cells: &[Cell<M, M::Value>],
-    n: usize,
-    job: &Job,
-    s: usize,
-    q: usize,
-) -> Option<M::Value>
-    requires { Ready cells.now n (stops_of job.now) × (q < n) }
-    ensures { result ≡ own_by M.Measure.meaning cells.now n (stops_of job.now) s q }
+fn own_value<M: Measure>(board: &Board<'_, M, M::Value>, s: usize, q: usize) -> Option<M::Value>
+    requires { q < board.now.n }
+    ensures { let b = board.now in result ≡ own_by M.Measure.meaning b.cells.now b.n (stops_of b.job.now) s q }
 {
-    if kind_fits(wanted_kind(job, s), kind_at(cells, n, q)) {
+    if kind_fits(wanted_kind(board.job, s), board.kind(q)) {
         Some(M::zero())
     } else {
         None
@@ -57,7 +52,8 @@ fn fill_row<M: Measure>(cells: &mut [Cell<M, M::Value>], n: usize, job: &Job, s:
 {
     let m = job.len();
     for q in 0..n {
-        let value = own_value::<M>(cells, n, job, s, q);
+        let board = Board { cells, n, job };
+        let value = own_value::<M>(&board, s, q);
         let at = stop_place(n, m, s, q);
         set_own(cells, at, value);
     }

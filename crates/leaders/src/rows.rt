@@ -13,7 +13,7 @@ use cells::cell::Cell;
 use cells::order::entry_at_or_before;
 use jobs::job::Job;
 use measures::Measure;
-use tables::access::{entry_at, set_entry};
+use tables::access::{cell_at, set_entry};
 use waiting::picking::{least_in, with_plan};
 use waiting::queue::row_start;
 
@@ -22,8 +22,8 @@ fn exchange<M, V: Copy>(cells: &mut [Cell<M, V>], a: usize, b: usize)
     requires { (a < length cells.old) × (b < length cells.old) }
     ensures { Exchanged cells.old cells.new a b }
 {
-    let one = entry_at(cells, a);
-    let other = entry_at(cells, b);
+    let one = cell_at(cells, a).entry;
+    let other = cell_at(cells, b).entry;
     set_entry(cells, b, one);
     set_entry(cells, a, other);
 }
@@ -33,8 +33,8 @@ fn comes_after<M: Measure>(cells: &[Cell<M, M::Value>], a: usize, b: usize) -> b
     requires { (a < length cells.now) × (b < length cells.now) }
     ensures { result ≡ not (entry_before M.Measure.meaning.before (entry_in cells.now a) (entry_in cells.now b)) }
 {
-    let one = entry_at(cells, a);
-    let other = entry_at(cells, b);
+    let one = cell_at(cells, a).entry;
+    let other = cell_at(cells, b).entry;
     !entry_at_or_before::<M>(&one, &other)
 }
 

@@ -1,4 +1,5 @@
 #![tactic(auto)]
 
+pub mod board;
 pub mod links;
 pub mod subtrees;

@@ -7,7 +7,7 @@ use cells::cell::Cell;
 use jobs::job::Job;
 use jobs::stops::{Link, Tie};
 use measures::Measure;
-use tables::access::{leg_at, ride_at};
+use tables::access::pair_at;
 
 // How a stop hangs on its parent.
 pub fn tie_at(job: &Job, s: usize) -> Option<Tie>
@@ -48,9 +48,10 @@ fn link_value<M, V: Copy>(
     requires { (p < n) × (q < n) × (n ≤ 64) × (n * n ≤ length cells.now) }
     ensures { result ≡ by_link link (leg_in cells.now n p q) (ride_in cells.now n p q) }
 {
+    let pair = pair_at(cells, n, p, q);
     match link {
-        Link::Direct => leg_at(cells, n, p, q),
-        Link::Ride => ride_at(cells, n, p, q),
+        Link::Direct => pair.leg,
+        Link::Ride => pair.ride,
     }
 }
 

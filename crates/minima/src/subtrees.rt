@@ -1,80 +1,59 @@
 ghost use Rattle.std.specs.Prelude.{◌≡◌, ℕ, ◌<◌, length, if◌then◌else◌, Some, Option, ◌≢◌, slice_index_or};
 ghost use Rattle.measures.specs.Optional.{both};
 ghost use Rattle.jobs.specs.Jobs.{stops_of};
-ghost use Rattle.measures.specs.Scales.{optional};
+ghost use Rattle.measures.specs.Scales.{at_most, optional};
 ghost use Rattle.trees.specs.Tasks.{Task};
 ghost use Rattle.trees.specs.Minima.{IsLeast};
 ghost use Rattle.trees.specs.Subtrees.{SubtreeLeast};
 ghost use Rattle.tables.specs.Tables.{blank, own_in, best_in, hang_in, Stays};
 ghost use Rattle.minima.specs.Tables.{child_in, link_in, Ready, hanging_in, RowIn, Holds, task_in, Tables};
 
-use crate::links::{is_child, link_at};
+use crate::board::Board;
+use crate::links::is_child;
 use cells::cell::Cell;
 use cells::order::lesser;
 use jobs::job::Job;
 use measures::Measure;
 use measures::optional::join_options;
-use tables::access::{best_at, hang_at, own_at, set_best, set_hang, stop_place};
+use tables::access::{set_best, set_hang, stop_place};
 
-// What stop c adds to the subtree of stop s at place q.
-fn hanging_at<M: Measure>(
-    cells: &[Cell<M, M::Value>],
-    n: usize,
-    job: &Job,
-    s: usize,
-    q: usize,
-    c: usize,
-) -> Option<M::Value>
-    requires { Ready cells.now n (stops_of job.now) × (q < n) × (c < length (stops_of job.now)) }
-    ensures { result ≡ (if child_in (stops_of job.now) s c then hang_in cells.now n c q else Some M.Measure.meaning.nought) }
-{
-    let m = job.len();
-    if is_child(job, s, c) {
-        hang_at(cells, n, m, c, q)
-    } else {
-        Some(M::zero())
+impl<'a, M: Measure> Board<'a, M, M::Value> {
+    // What stop c adds to the subtree of stop s at place q.
+    fn hanging(&self, s: usize, q: usize, c: usize) -> Option<M::Value>
+        requires { (q < self.now.n) × (c < length (stops_of self.now.job.now)) }
+        ensures { result ≡ (if child_in (stops_of self.now.job.now) s c then hang_in self.now.cells.now self.now.n c q else Some M.Measure.meaning.nought) }
+    {
+        if is_child(self.job, s, c) {
+            self.hang(c, q)
+        } else {
+            Some(M::zero())
+        }
     }
-}
 
-// The least value of the subtree of stop s at place q, where the stops that hang on it have theirs.
-fn best_value<M: Measure>(
-    cells: &[Cell<M, M::Value>],
-    n: usize,
-    job: &Job,
-    s: usize,
-    q: usize,
-) -> Option<M::Value>
-    requires { Ready cells.now n (stops_of job.now) × (s < length (stops_of job.now)) × (q < n) }
-    ensures { result ≡ both M.Measure.meaning.joined (own_in cells.now n s q) (hanging_in M.Measure.meaning cells.now n (stops_of job.now) s q) }
-{
-    let m = job.len();
-    let mut sum = Some(M::zero());
-    for c in 0..m {
-        sum = join_options::<M>(sum, hanging_at::<M>(cells, n, job, s, q, c));
+    // The least value of the subtree of stop s at place q, where the stops that hang on it have theirs.
+    fn best_value(&self, s: usize, q: usize) -> Option<M::Value>
+        requires { (s < length (stops_of self.now.job.now)) × (q < self.now.n) }
+        ensures { result ≡ both M.Measure.meaning.joined (own_in self.now.cells.now self.now.n s q) (hanging_in M.Measure.meaning self.now.cells.now self.now.n (stops_of self.now.job.now) s q) }
+    {
+        let mut sum = Some(M::zero());
+        for c in 0..self.job.len() {
+            sum = join_options::<M>(sum, self.hanging(s, q, c));
+        }
+        join_options::<M>(self.own(s, q), sum)
     }
-    let own = own_at(cells, n, m, s, q);
-    join_options::<M>(own, sum)
-}
 
-// The least value of the link and the subtree of stop s below place p of its parent.
-fn hang_value<M: Measure>(
-    cells: &[Cell<M, M::Value>],
-    n: usize,
-    job: &Job,
-    s: usize,
-    p: usize,
-) -> Option<M::Value>
-    requires { Ready cells.now n (stops_of job.now) × (s < length (stops_of job.now)) × (p < n) }
-    ensures { IsLeast (optional M.Measure.meaning) n (λ q. both M.Measure.meaning.joined (link_in cells.now n (stops_of job.now) s p q) (best_in cells.now n s q)) result }
-{
-    let m = job.len();
-    let mut least = None;
-    for q in 0..n {
-        let link = link_at(cells, n, job, s, p, q);
-        let value = join_options::<M>(link, best_at(cells, n, m, s, q));
-        least = lesser::<M>(least, value);
+    // The least value of the link and the subtree of stop s below place p of its parent.
+    fn hang_value(&self, s: usize, p: usize) -> Option<M::Value>
+        requires { (s < length (stops_of self.now.job.now)) × (p < self.now.n) }
+        ensures { IsLeast (optional M.Measure.meaning) self.now.n (λ q. both M.Measure.meaning.joined (link_in self.now.cells.now self.now.n (stops_of self.now.job.now) s p q) (best_in self.now.cells.now self.now.n s q)) result }
+    {
+        let mut least = None;
+        for q in 0..self.n {
+            let value = join_options::<M>(self.link(s, p, q), self.best(s, q));
+            least = lesser::<M>(least, value);
+        }
+        least
     }
-    least
 }
 
 // Fills in the least values of the subtree of stop s, place by place.
@@ -87,7 +66,8 @@ fn fill_best<M: Measure>(cells: &mut [Cell<M, M::Value>], n: usize, job: &Job, s
 {
     let m = job.len();
     for place in 0..n {
-        let value = best_value::<M>(cells, n, job, s, place);
+        let board = Board { cells, n, job };
+        let value = board.best_value(s, place);
         let at = stop_place(n, m, s, place);
         set_best(cells, at, value);
     }
@@ -103,7 +83,8 @@ fn fill_hang<M: Measure>(cells: &mut [Cell<M, M::Value>], n: usize, job: &Job, s
 {
     let m = job.len();
     for p in 0..n {
-        let value = hang_value::<M>(cells, n, job, s, p);
+        let board = Board { cells, n, job };
+        let value = board.hang_value(s, p);
         let at = stop_place(n, m, s, p);
         set_hang(cells, at, value);
     }
@@ -115,8 +96,7 @@ fn fill_rows<M: Measure>(cells: &mut [Cell<M, M::Value>], n: usize, job: &Job, m
     ensures stays { Stays cells.old cells.new }
     ensures rows { (s : ℕ) → s < length (stops_of job.now) → RowIn M.Measure.meaning cells.new n (stops_of job.now) s }
 {
-    for i in 0..m {
-        let s = m - 1 - i;
+    for s in (0..m).rev() {
         fill_best::<M>(cells, n, job, s);
         fill_hang::<M>(cells, n, job, s);
     }

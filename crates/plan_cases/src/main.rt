@@ -24,7 +24,7 @@ use measures::values::{ClimbValue, LongestValue, TimeValue};
 use quarters::quarter::Quarter;
 use rides::table::fill;
 use std::{fmt, io};
-use tables::access::entry_at;
+use tables::access::cell_at;
 use turns::starting::{begin, begin_again, behind_tables};
 use turns::turning::{give, look};
 
@@ -207,7 +207,7 @@ fn print_plan<M: Measure>(
     requires { Roomy cells.now n (length (stops_of job.now)) k × (rows < k) × (w < k) }
 {
     let m = job.len();
-    let plan = entry_at(cells, behind_tables(n, m) + w);
+    let plan = cell_at(cells, behind_tables(n, m) + w).entry;
     let Some(score) = plan.score else {
         return println!(rt; "no score");
     };

@@ -1,7 +1,7 @@
 ghost use Rattle.std.specs.Prelude.{◌≡◌, ◌*◌, ◌<◌, ◌≤◌, length};
 
 use cells::cell::Cell;
-use tables::access::{pair_place, ride_at};
+use tables::access::{pair_at, pair_place};
 
 // The table of pairs of n places, which stands in the first cells of those that are lent.
 #[derive(Drop)]
@@ -38,7 +38,7 @@ impl<'a, M, V: Copy> PairTable<'a, M, V> {
         requires { (a < self.now.n) × (b < self.now.n) }
         ensures { result ≡ ride_in self.now.cells.now self.now.n a b }
     {
-        ride_at(self.cells, self.n, a, b)
+        pair_at(self.cells, self.n, a, b).ride
     }
 
     // Writes the leg's value and the ride from a to b. Two writes: `Cell { leg, ride, ..cell }` gets no proof, since a cell

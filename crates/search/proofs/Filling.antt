@@ -60,11 +60,3 @@ module _ {M V : Type 0} (meaning : MeasureMeaning V) (laws : Laws meaning.nought
     below = λ q _ h o. ap ((optional meaning).leq r.value) (swap (optional meaning) (lifted meaning laws) τ H tables.holds.rooted tables.minimal (places_of from) (places_of places) depth q same) ∙ pick.below q (subst (λ (k : ℕ). q < k) tables.holds.count h) o;
     there = λ some. subst (λ (k : ℕ). Found (optional meaning) τ H k (places_of places) depth (has_bit excluded.bits) r.value) (sym tables.holds.size) (found some);
   }
-
-  -- without places there is no plan
-  pub first_none : (places : List ℕ) (depth : ℕ) (excluded : PlaceSet) → n ≡ 0 → First (optional meaning) τ H (space_of (record { score = None; places = places; depth = depth; excluded = excluded }))
-  first_none places depth excluded z = record {
-    deep = λ some. absurd (some refl);
-    below = λ q _ h o. let e = tables.holds.count in absurd (omega arith);
-    there = λ some. absurd (some refl);
-  }

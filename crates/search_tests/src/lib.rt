@@ -14,7 +14,7 @@ use measures::Measure;
 use measures::optional::join_options;
 use minima::links::{link_at, parent_at};
 use minima::subtrees::fill_minima;
-use tables::access::{entry_at, own_at};
+use tables::access::{cell_at, stop_at};
 use waiting::opening::let_all_wait;
 
 // Three places and three stops: so 27 placements, and one plan more is wanted.
@@ -77,13 +77,13 @@ fn laid_out<M: Measure>(cells: &[Cell<M, M::Value>], job: &Job, q: usize) -> Ent
     let b = q / 3 % 3;
     let c = q % 3;
     let above = if parent_at(job, 2) == 0 { a } else { b };
-    let first = own_at(cells, PLACES, STOPS, 0, a);
+    let first = stop_at(cells, PLACES, STOPS, 0, a).own;
     let second = join_options::<M>(
-        own_at(cells, PLACES, STOPS, 1, b),
+        stop_at(cells, PLACES, STOPS, 1, b).own,
         link_at(cells, PLACES, job, 1, a, b),
     );
     let third = join_options::<M>(
-        own_at(cells, PLACES, STOPS, 2, c),
+        stop_at(cells, PLACES, STOPS, 2, c).own,
         link_at(cells, PLACES, job, 2, above, c),
     );
     let mut entry = Entry::without_plan(0);
@@ -131,7 +131,7 @@ fn enumerate<M: Measure>(cells: &mut [Cell<M, M::Value>], job: &Job) -> Result<(
             let all = given == plans::<M>(cells, job);
             return if all { Ok(()) } else { Err(Wrong::Count) };
         };
-        let plan = entry_at(cells, BASE + w);
+        let plan = cell_at(cells, BASE + w).entry;
         if rank::<M>(cells, job, &plan) != Some(given) {
             return Err(Wrong::Turn);
         }

@@ -29,7 +29,8 @@ pub fn stop_place(n: usize, m: usize, s: usize, q: usize) -> usize
 }
 
 // A cell.
-fn cell_at<M, V: Copy>(cells: &[Cell<M, V>], at: usize) -> &Cell<M, V>
+#[tactic(auto, using(std::proofs::lemmas::List::get_or_default), unfolding(crate::specs::Tables::entry_in))]
+pub fn cell_at<M, V: Copy>(cells: &[Cell<M, V>], at: usize) -> &Cell<M, V>
     requires { at < length cells.now }
     ensures whole { result.now ≡ slice_index_or cells.now at blank }
     ensures waiting { result.now.entry ≡ entry_in cells.now at }
@@ -38,7 +39,8 @@ fn cell_at<M, V: Copy>(cells: &[Cell<M, V>], at: usize) -> &Cell<M, V>
 }
 
 // The cell of a pair of places.
-fn pair_at<M, V: Copy>(cells: &[Cell<M, V>], n: usize, a: usize, b: usize) -> &Cell<M, V>
+#[tactic(auto, unfolding(crate::specs::Tables::leg_in, crate::specs::Tables::ride_in))]
+pub fn pair_at<M, V: Copy>(cells: &[Cell<M, V>], n: usize, a: usize, b: usize) -> &Cell<M, V>
     requires { (a < n) × (b < n) × (n ≤ 64) × (n * n ≤ length cells.now) }
     ensures leg { result.now.leg ≡ leg_in cells.now n a b }
     ensures ride { result.now.ride ≡ ride_in cells.now n a b }
@@ -48,7 +50,8 @@ fn pair_at<M, V: Copy>(cells: &[Cell<M, V>], n: usize, a: usize, b: usize) -> &C
 }
 
 // The cell of a place: that of the place paired with itself.
-fn place_at<M, V: Copy>(cells: &[Cell<M, V>], n: usize, p: usize) -> &Cell<M, V>
+#[tactic(auto, unfolding(crate::specs::Tables::kind_in))]
+pub fn place_at<M, V: Copy>(cells: &[Cell<M, V>], n: usize, p: usize) -> &Cell<M, V>
     requires { (p < n) × (n ≤ 64) × (n * n ≤ length cells.now) }
     ensures { result.now.kind ≡ kind_in cells.now n p }
 {
@@ -57,7 +60,14 @@ fn place_at<M, V: Copy>(cells: &[Cell<M, V>], n: usize, p: usize) -> &Cell<M, V>
 }
 
 // The cell of a stop at a place.
-fn stop_at<M, V: Copy>(cells: &[Cell<M, V>], n: usize, m: usize, s: usize, q: usize) -> &Cell<M, V>
+#[tactic(auto, unfolding(crate::specs::Tables::own_in, crate::specs::Tables::best_in, crate::specs::Tables::hang_in))]
+pub fn stop_at<M, V: Copy>(
+    cells: &[Cell<M, V>],
+    n: usize,
+    m: usize,
+    s: usize,
+    q: usize,
+) -> &Cell<M, V>
     requires { (s < m) × (q < n) × (n ≤ 64) × (m ≤ 12) × (n * n + m * n ≤ length cells.now) }
     ensures own { result.now.own ≡ own_in cells.now n s q }
     ensures best { result.now.best ≡ best_in cells.now n s q }
@@ -67,75 +77,8 @@ fn stop_at<M, V: Copy>(cells: &[Cell<M, V>], n: usize, m: usize, s: usize, q: us
     cell_at(cells, i)
 }
 
-// The leg between two places.
-pub fn leg_at<M, V: Copy>(cells: &[Cell<M, V>], n: usize, a: usize, b: usize) -> Option<V>
-    requires { (a < n) × (b < n) × (n ≤ 64) × (n * n ≤ length cells.now) }
-    ensures { result ≡ leg_in cells.now n a b }
-{
-    pair_at(cells, n, a, b).leg
-}
-
-// The ride between two places.
-pub fn ride_at<M, V: Copy>(cells: &[Cell<M, V>], n: usize, a: usize, b: usize) -> Option<V>
-    requires { (a < n) × (b < n) × (n ≤ 64) × (n * n ≤ length cells.now) }
-    ensures { result ≡ ride_in cells.now n a b }
-{
-    pair_at(cells, n, a, b).ride
-}
-
-// The kind of a place.
-pub fn kind_at<M, V: Copy>(cells: &[Cell<M, V>], n: usize, p: usize) -> u8
-    requires { (p < n) × (n ≤ 64) × (n * n ≤ length cells.now) }
-    ensures { result ≡ kind_in cells.now n p }
-{
-    place_at(cells, n, p).kind
-}
-
-// A stop's own value at a place.
-pub fn own_at<M, V: Copy>(cells: &[Cell<M, V>], n: usize, m: usize, s: usize, q: usize) -> Option<V>
-    requires { (s < m) × (q < n) × (n ≤ 64) × (m ≤ 12) × (n * n + m * n ≤ length cells.now) }
-    ensures { result ≡ own_in cells.now n s q }
-{
-    stop_at(cells, n, m, s, q).own
-}
-
-// The least value of a stop's subtree at a place.
-pub fn best_at<M, V: Copy>(
-    cells: &[Cell<M, V>],
-    n: usize,
-    m: usize,
-    s: usize,
-    q: usize,
-) -> Option<V>
-    requires { (s < m) × (q < n) × (n ≤ 64) × (m ≤ 12) × (n * n + m * n ≤ length cells.now) }
-    ensures { result ≡ best_in cells.now n s q }
-{
-    stop_at(cells, n, m, s, q).best
-}
-
-// The least value of a stop's link and subtree below a place of its parent.
-pub fn hang_at<M, V: Copy>(
-    cells: &[Cell<M, V>],
-    n: usize,
-    m: usize,
-    s: usize,
-    p: usize,
-) -> Option<V>
-    requires { (s < m) × (p < n) × (n ≤ 64) × (m ≤ 12) × (n * n + m * n ≤ length cells.now) }
-    ensures { result ≡ hang_in cells.now n s p }
-{
-    stop_at(cells, n, m, s, p).hang
-}
-
-// The waiting subspace in a cell.
-pub fn entry_at<M, V: Copy>(cells: &[Cell<M, V>], at: usize) -> Entry<V>
-    requires { at < length cells.now }
-    ensures { result ≡ entry_in cells.now at }
-{
-    cell_at(cells, at).entry
-}
-
-// Writes a part of a cell; nothing else changes.
+// Writes a part of a cell; nothing else changes. The four below write in place through it: with an assignment in each of
+// them, or in their callers, the check does not find by itself that nothing else changes.
 fn write<M, V: Copy>(cells: &mut [Cell<M, V>], at: usize, part: Part<V>)
     requires { at < length cells.old }
     ensures { Wrote at part cells.old cells.new }

@@ -8,9 +8,11 @@ ghost use Rattle.minima.specs.Tables.{Ready, Tables};
 ghost use Rattle.waiting.specs.Queues.{waiting_in, NoSpace, Queue, FreeHeads};
 
 use crate::queue::room_for;
+use bounds::prefixes::Prefix;
 use cells::cell::{Cell, Entry};
 use jobs::job::Job;
 use measures::Measure;
+use minima::board::Board;
 use search::firsts::first_plan;
 use sets::PlaceSet;
 use tables::access::set_entry;
@@ -52,6 +54,12 @@ pub fn let_all_wait<M: Measure>(
     let to = base + room_for(k, m);
     clear(cells, base, to, m);
     let places = [0; 12];
-    let first = first_plan::<M>(cells, n, job, &places, 0, PlaceSet::empty());
+    let board = Board { cells, n, job };
+    let prefix = Prefix {
+        board: &board,
+        places: &places,
+        i: 0,
+    };
+    let first = first_plan::<M>(&prefix, PlaceSet::empty());
     set_entry(cells, base, first);
 }

@@ -10,28 +10,29 @@ ghost use Rattle.minima.specs.Tables.{Ready, Tables};
 ghost use Rattle.waiting.specs.Queues.{Part, Safe};
 ghost use Rattle.sets.specs.Placements.{Same};
 
+use bounds::prefixes::Prefix;
 use cells::cell::{Cell, Entry};
 use jobs::job::Job;
 use measures::Measure;
+use minima::board::Board;
 use search::firsts::first_plan;
 use sets::PlaceSet;
 use tables::access::set_entry;
 
 // The part of a subspace with the plans that leave its first plan at stop t, t being behind its depth.
-fn part_at<M: Measure>(
-    cells: &[Cell<M, M::Value>],
-    n: usize,
-    job: &Job,
-    from: &[u8; 12],
-    t: usize,
-) -> Entry<M::Value>
-    requires { Ready cells.now n (stops_of job.now) × (t < length (stops_of job.now)) × ((s : ℕ) → s < length (stops_of job.now) → places_of from.now s < n) }
+fn part_at<M: Measure>(board: &Board<'_, M, M::Value>, from: &[u8; 12], t: usize) -> Entry<M::Value>
+    requires { let b = board.now in let m = length (stops_of b.job.now) in (t < m) × ((s : ℕ) → s < m → places_of from.now s < b.n) }
     ensures part { Part from.now t result }
-    ensures safe { Safe n (length (stops_of job.now)) result }
-    ensures first { (τ : Task (Option M.Value)) (H : ℕ → ℕ → Option M.Value) → Tables M.Measure.meaning cells.now n (stops_of job.now) τ H → First (optional M.Measure.meaning) τ H (space_of result) }
+    ensures safe { Safe board.now.n (length (stops_of board.now.job.now)) result }
+    ensures first { let b = board.now in (τ : Task (Option M.Value)) (H : ℕ → ℕ → Option M.Value) → Tables M.Measure.meaning b.cells.now b.n (stops_of b.job.now) τ H → First (optional M.Measure.meaning) τ H (space_of result) }
 {
     let excluded = PlaceSet::empty().with(from[t] as usize);
-    first_plan::<M>(cells, n, job, from, t, excluded)
+    let prefix = Prefix {
+        board: &*board,
+        places: &*from,
+        i: t,
+    };
+    first_plan::<M>(&prefix, excluded)
 }
 
 // How many stops there are behind the depth.
@@ -60,7 +61,8 @@ pub fn split_rest<M: Measure>(
 {
     let m = job.len();
     for u in 0..stops_behind(m, depth) {
-        let part = part_at::<M>(cells, n, job, from, depth + 1 + u);
+        let board = Board { cells, n, job };
+        let part = part_at::<M>(&board, from, depth + 1 + u);
         set_entry(cells, at + u, part);
     }
 }
@@ -75,17 +77,20 @@ fn excluded_here<V: Copy>(old: &Entry<V>) -> PlaceSet
 
 // The part of a subspace with the plans that leave its first plan at its own depth.
 pub fn part_here<M: Measure>(
-    cells: &[Cell<M, M::Value>],
-    n: usize,
-    job: &Job,
+    board: &Board<'_, M, M::Value>,
     old: &Entry<M::Value>,
 ) -> Entry<M::Value>
-    requires { Ready cells.now n (stops_of job.now) × (old.now.depth < length (stops_of job.now)) × ((s : ℕ) → s < length (stops_of job.now) → places_of old.now.places s < n) }
+    requires { let b = board.now in let m = length (stops_of b.job.now) in (old.now.depth < m) × ((s : ℕ) → s < m → places_of old.now.places s < b.n) }
     ensures kept { (result.depth ≡ old.now.depth) × Same old.now.depth (places_of old.now.places) (places_of result.places) }
     ensures excluded { (q : ℕ) → has_bit result.excluded.bits q ≡ (has_bit old.now.excluded.bits q || q == places_of old.now.places old.now.depth) }
-    ensures safe { Safe n (length (stops_of job.now)) result }
-    ensures first { (τ : Task (Option M.Value)) (H : ℕ → ℕ → Option M.Value) → Tables M.Measure.meaning cells.now n (stops_of job.now) τ H → First (optional M.Measure.meaning) τ H (space_of result) }
+    ensures safe { Safe board.now.n (length (stops_of board.now.job.now)) result }
+    ensures first { let b = board.now in (τ : Task (Option M.Value)) (H : ℕ → ℕ → Option M.Value) → Tables M.Measure.meaning b.cells.now b.n (stops_of b.job.now) τ H → First (optional M.Measure.meaning) τ H (space_of result) }
 {
     let excluded = excluded_here(old);
-    first_plan::<M>(cells, n, job, &old.places, old.depth, excluded)
+    let prefix = Prefix {
+        board: &*board,
+        places: &old.places,
+        i: old.depth,
+    };
+    first_plan::<M>(&prefix, excluded)
 }

@@ -10,7 +10,7 @@ ghost use Rattle.waiting.specs.Queues.{waiting_in, row_start, Queue};
 
 use crate::queue::room_for;
 use cells::cell::Cell;
-use tables::access::entry_at;
+use tables::access::cell_at;
 use jobs::job::Job;
 use least::least_of;
 use measures::Measure;
@@ -32,7 +32,7 @@ pub fn with_plan<M, V: Copy>(cells: &[Cell<M, V>], base: usize, w: usize) -> Opt
     requires { (base ≤ 4864) × (w ≤ 3072) × (base + w < length cells.now) }
     ensures { MatchOption result ((entry_in cells.now (base + w)).score ≡ None) (λ v. (v ≡ w) × ((entry_in cells.now (base + w)).score ≢ None)) }
 {
-    let entry = entry_at(cells, base + w);
+    let entry = cell_at(cells, base + w).entry;
     match entry.score {
         None => None,
         Some(_) => Some(w),

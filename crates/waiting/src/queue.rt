@@ -6,7 +6,8 @@ use crate::parts::{part_here, split_rest};
 use cells::cell::Cell;
 use jobs::job::Job;
 use measures::Measure;
-use tables::access::{entry_at, set_entry};
+use minima::board::Board;
+use tables::access::{cell_at, set_entry};
 
 // How many entries that are no heads stand in front of a row's.
 fn entries_before(m: usize, k: usize, row: usize) -> usize
@@ -47,8 +48,9 @@ fn split_head<M: Measure>(
     requires { (m ≡ length (stops_of job.now)) × Splittable cells.old n (stops_of job.now) base k rows w }
     ensures { SplitOff M.Measure.meaning (stops_of job.now) n base k rows w cells.old cells.new }
 {
-    let old = entry_at(cells, base + w);
-    let here = part_here::<M>(cells, n, job, &old);
+    let old = cell_at(cells, base + w).entry;
+    let board = Board { cells, n, job };
+    let here = part_here::<M>(&board, &old);
     set_entry(cells, base + w, here);
     let start = base + row_start(m, k, rows);
     split_rest::<M>(cells, n, job, start, &old.places, old.depth);

@@ -1,13 +1,10 @@
-use Rattle.std.proofs.Common.{◌≡◌, ℕ, ◌<◌, refl, ◌∙◌, ap₂, arith}
+use Rattle.std.proofs.Common.{◌≡◌, ℕ, ◌<◌, ◌∙◌, ap₂, arith}
 use Rattle.measures.specs.Optional.{both}
 use Rattle.jobs.specs.Jobs.{stops_of}
 use Rattle.tables.specs.Tables.{own_in, best_in}
 use Rattle.minima.specs.Tables.{hanging_in}
-use Rattle.minima.proofs.Rows.{stays_none, stays_both, best_else, best_there, own_stays, hang_stays, hanging_stays, more}
+use Rattle.minima.proofs.Rows.{stays_both, best_else, best_there, own_stays, hang_stays, hanging_stays, more}
 use Rattle.minima.proofs.subtrees.fill_best.Goals as goal
-
-pub loop-place-init : goal.loop-place-init
-loop-place-init g c = (stays_none c.args.cells.now, (λ i. refl), (λ t q d h. refl), λ q l. absurd (omega arith))
 
 pub loop-place-preserved : goal.loop-place-preserved
 loop-place-preserved g c = let m = g.M.Measure.meaning in
@@ -24,6 +21,3 @@ loop-place-preserved g c = let m = g.M.Measure.meaning in
           ∙ ap₂ (both m.joined) (own_stays c.args.cells.now c.loop-place.cells c.args.n c.loop-place.invariant.0 c.args.s c.loop-place.place)
           (hanging_stays m g.met.M.Measure.lawful.laws c.args.n c.args.job.now c.args.cells.now c.loop-place.cells c.args.s c.loop-place.place (λ x _. hang_stays c.args.cells.now c.loop-place.cells c.args.n c.loop-place.invariant.1 x c.loop-place.place))),
     )
-
-pub returns : goal.returns
-returns g c = record { stays = c.loop-place.invariant.0; hangs = c.loop-place.invariant.1; others = c.loop-place.invariant.2; row = λ q l. c.loop-place.invariant.3 q (omega arith) }

@@ -7,11 +7,8 @@ use Rattle.trees.proofs.Lift.{lifted}
 use Rattle.trees.proofs.Bounds.{least_same}
 use Rattle.tables.specs.Tables.{best_in, hang_in}
 use Rattle.minima.specs.Tables.{link_in}
-use Rattle.minima.proofs.Rows.{stays_none, stays_both, hang_else, hang_there, link_stays, best_stays, more}
+use Rattle.minima.proofs.Rows.{stays_both, hang_else, hang_there, link_stays, best_stays, more}
 use Rattle.minima.proofs.subtrees.fill_hang.Goals as goal
-
-pub loop-p-init : goal.loop-p-init
-loop-p-init g c = (stays_none c.args.cells.now, (λ i. refl), (λ t q d h. refl), λ q l. absurd (omega arith))
 
 pub loop-p-preserved : goal.loop-p-preserved
 loop-p-preserved g c = let m = g.M.Measure.meaning in
@@ -27,6 +24,3 @@ loop-p-preserved g c = let m = g.M.Measure.meaning in
           (hang_there c.set_hang.new.cells c.args.n c.args.s c.loop-p.p c.stop_place-at.result c.hang_value-value.result c.stop_place-at.ensures.0 c.set_hang.ensures.there)
           c.hang_value-value.ensures),
     )
-
-pub returns : goal.returns
-returns g c = record { stays = c.loop-p.invariant.0; bests = c.loop-p.invariant.1; others = c.loop-p.invariant.2; row = λ p l. c.loop-p.invariant.3 p (omega arith) }

@@ -9,16 +9,13 @@ use Rattle.waiting.proofs.Keeping.{one_bit}
 use Rattle.waiting.proofs.parts.part_here.Goals as goal
 
 pub excluded_here-excluded-requires : goal.excluded_here-excluded-requires
-excluded_here-excluded-requires g c = let k = few_stops c.args.job.now in let d = c.requires.1 in omega arith
-
-pub first_plan-requires : goal.first_plan-requires
-first_plan-requires g c = (c.requires.0, c.requires.1, λ t l. c.requires.2 t (let d = c.requires.1 in omega arith))
+excluded_here-excluded-requires g c = let k = few_stops c.args.board.now.job.now in let d = c.requires.0 in omega arith
 
 pub returns : goal.returns
-returns g c = let h = c.requires.2 c.args.old.now.depth c.requires.1 in let few = c.requires.0.few in record {
+returns g c = let h = c.requires.1 c.args.old.now.depth c.requires.0 in let few = c.args.board.now.ready.few in record {
   kept = (c.first_plan.ensures.kept.0, c.first_plan.ensures.kept.2);
   excluded = λ r. ap (λ (e : PlaceSet). has_bit e.bits r) c.first_plan.ensures.kept.1 ∙ c.excluded_here-excluded.ensures r
       ∙ one_bit _ (eqb r (places_of c.args.old.now.places c.args.old.now.depth)) _ (lt-ltb (places_of c.args.old.now.places c.args.old.now.depth) 64 (omega arith));
-  safe = λ some. (subst (λ (d : ℕ). d < length (stops_of c.args.job.now)) (sym c.first_plan.ensures.kept.0) c.requires.1, c.first_plan.ensures.small.0 (omega arith));
+  safe = λ some. (subst (λ (d : ℕ). d < length (stops_of c.args.board.now.job.now)) (sym c.first_plan.ensures.kept.0) c.requires.0, c.first_plan.ensures.small.0 (omega arith));
   first = c.first_plan.ensures.first;
 }

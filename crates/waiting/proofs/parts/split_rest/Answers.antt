@@ -10,10 +10,6 @@ use Rattle.minima.proofs.Rows.{more}
 use Rattle.waiting.proofs.Keeping.{tables_kept, same_entry}
 use Rattle.waiting.proofs.parts.split_rest.Goals as goal
 
-pub part_at-part-requires : goal.part_at-part-requires
-part_at-part-requires g c = let r = c.requires.0 in let k = c.loop-u.auto.cells in let told = c.len-m.ensures.told in
-    (record { few = r.few; room = (let x = r.room in omega arith) }, omega arith, c.requires.2)
-
 pub loop-u-preserved : goal.loop-u-preserved
 loop-u-preserved g c = let m = g.M.Measure.meaning in let V = g.row.M-Value.Denot in
     let there = c.set_entry.ensures.there in

@@ -5,8 +5,8 @@ use Rattle.measures.specs.Scales.{optional}
 use Rattle.trees.specs.Minima.{IsLeast}
 use Rattle.tables.specs.Tables.{best_in}
 use Rattle.minima.specs.Tables.{link_in}
-use Rattle.minima.proofs.subtrees.hang_value.Given as goal
+use Rattle.minima.proofs.subtrees.Board+M+M+Value.hang_value.Given as goal
 
 abbrev pub invariant-loop-q : goal.invariant-loop-q
 invariant-loop-q g l = let m = g.M.Measure.meaning in
-    (k : ℕ) → k ≡ l.q → IsLeast (optional m) k (λ q. both m.joined (link_in l.cells l.n (stops_of l.job) l.s l.p q) (best_in l.cells l.n l.s q)) l.least
+    (k : ℕ) → k ≡ l.q → IsLeast (optional m) k (λ q. both m.joined (link_in l.self.cells.now l.self.n (stops_of l.self.job.now) l.s l.p q) (best_in l.self.cells.now l.self.n l.s q)) l.least

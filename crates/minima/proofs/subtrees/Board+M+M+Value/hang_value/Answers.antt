@@ -6,15 +6,12 @@ use Rattle.jobs.specs.Jobs.{stops_of}
 use Rattle.tables.specs.Tables.{best_in}
 use Rattle.minima.specs.Tables.{link_in}
 use Rattle.trees.proofs.Lift.{lifted}
-use Rattle.trees.proofs.Bounds.{least_none, least_more}
+use Rattle.trees.proofs.Bounds.{least_more}
 use Rattle.minima.proofs.Rows.{least_at}
-use Rattle.minima.proofs.subtrees.hang_value.Goals as goal
-
-pub loop-q-init : goal.loop-q-init
-loop-q-init g c k e = least_at e (least_none (optional g.M.Measure.meaning) _)
+use Rattle.minima.proofs.subtrees.Board+M+M+Value.hang_value.Goals as goal
 
 pub loop-q-preserved : goal.loop-q-preserved
 loop-q-preserved g c k e' = let m = g.M.Measure.meaning in let V = g.row.M-Value.Denot in
-    let e = c.join_options-value.ensures ∙ ap₂ (both m.joined) c.link_at-link.ensures c.best_at.ensures in
-    subst (λ (v : Option V). IsLeast (optional m) k (λ q. both m.joined (link_in c.args.cells.now c.args.n (stops_of c.args.job.now) c.args.s c.args.p q) (best_in c.args.cells.now c.args.n c.args.s q)) v) (sym (c.lesser-least.ensures ∙ ap (λ v. cond (at_most m.before c.loop-q.least v) c.loop-q.least v) e))
+    let e = c.join_options-value.ensures ∙ ap₂ (both m.joined) c.link.ensures c.best.ensures in
+    subst (λ (v : Option V). IsLeast (optional m) k (λ q. both m.joined (link_in c.args.self.now.cells.now c.args.self.now.n (stops_of c.args.self.now.job.now) c.args.s c.args.p q) (best_in c.args.self.now.cells.now c.args.self.now.n c.args.s q)) v) (sym (c.lesser-least.ensures ∙ ap (λ v. cond (at_most m.before c.loop-q.least v) c.loop-q.least v) e))
     (least_at e' (least_more (optional m) (lifted m g.met.M.Measure.lawful.laws) c.loop-q.q _ c.loop-q.least (c.loop-q.invariant c.loop-q.q refl)))
