@@ -16,14 +16,6 @@ use search::firsts::first_plan;
 use sets::PlaceSet;
 use tables::access::set_entry;
 
-// How many entries k rows have for m stops.
-fn room_for(k: usize, m: usize) -> usize
-    requires { (m ≤ 12) × (k ≤ 256) }
-    ensures { (result ≡ k * m) × (result ≤ 3072) }
-{
-    k * m
-}
-
 // Leaves no subspace waiting in the cells from one to another, for m stops.
 fn clear<M, V: Copy>(cells: &mut [Cell<M, V>], from: usize, to: usize, m: usize)
     requires { to ≤ length cells.old }
@@ -57,7 +49,7 @@ pub fn let_all_wait<M: Measure>(
         Partition (optional M.Measure.meaning) τ H [] (k * length (stops_of job.now)) (waiting_in cells.new base) }
 {
     let m = job.len();
-    let to = base + room_for(k, m);
+    let to = base + k * m;
     clear(cells, base, to, m);
     let places = [0; 12];
     let board = Board { cells, n, job };
