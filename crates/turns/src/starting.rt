@@ -29,7 +29,8 @@ fn fill_tables<M: Measure>(cells: &mut [Cell<M, M::Value>], n: usize, job: &Job)
     fill_minima::<M>(cells, n, job);
 }
 
-// Lets all plans wait in the cells from `base` on, behind the tables.
+// Lets all plans wait in the cells from `base` on, behind the tables. It is apart, as `begin_behind` is, so that a wrong
+// base is refused at its call.
 fn wait_behind<M: Measure>(
     cells: &mut [Cell<M, M::Value>],
     n: usize,

@@ -19,7 +19,7 @@ pub fn row_start(m: usize, k: usize, row: usize) -> usize
 }
 
 // The plan of head w is given, for m stops: the part of its subspace at its own depth takes its place, and the others go
-// into row `rows`.
+// into row `rows`. It is apart from `split_off` so that a wrong number of stops is refused at its call.
 fn split_head<M: Measure>(
     cells: &mut [Cell<M, M::Value>],
     n: usize,
