@@ -8,7 +8,8 @@ use jobs::job::Job;
 use measures::Measure;
 use waiting::queue::split_off;
 
-// Splits what is left with the plan of head w, for m stops; the two rows that change get their leaders again.
+// Splits what is left with the plan of head w, for m stops; the two rows that change get their leaders again. It is apart
+// from `advance` so that a wrong number of stops is refused at its call.
 fn split_and_lead<M: Measure>(
     cells: &mut [Cell<M, M::Value>],
     n: usize,

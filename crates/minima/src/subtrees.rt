@@ -56,7 +56,8 @@ impl<'a, M: Measure> Board<'a, M, M::Value> {
     }
 }
 
-// Fills in the least values of the subtree of stop s, place by place.
+// Fills in the least values of the subtree of stop s, place by place. It writes, so it takes the cells themselves; a board
+// only reads them.
 fn fill_best<M: Measure>(cells: &mut [Cell<M, M::Value>], n: usize, job: &Job, s: usize)
     requires { Ready cells.old n (stops_of job.now) × (s < length (stops_of job.now)) }
     ensures stays { Stays cells.old cells.new }
@@ -90,7 +91,8 @@ fn fill_hang<M: Measure>(cells: &mut [Cell<M, M::Value>], n: usize, job: &Job, s
     }
 }
 
-// Fills in the minima of all m stops, from the last one to the first.
+// Fills in the minima of all m stops, from the last one to the first. It is apart from `fill_minima` so that a wrong number
+// of stops is refused at its call.
 fn fill_rows<M: Measure>(cells: &mut [Cell<M, M::Value>], n: usize, job: &Job, m: usize)
     requires { Ready cells.old n (stops_of job.now) × (m ≡ length (stops_of job.now)) }
     ensures stays { Stays cells.old cells.new }

@@ -175,14 +175,6 @@ fn read_case(text: &str) -> anyhow::Result<Result<Case, Refusal>> {
     }))
 }
 
-// How many entries wait at most, m for each of k plans.
-fn entries(k: usize, m: usize) -> usize
-    requires { (k ≤ 256) × (m ≤ 12) }
-    ensures { (result ≡ k * m) × (result ≤ 3072) }
-{
-    k * m
-}
-
 // Whether there are cells enough for n places, the job and k plans.
 fn has_room<M, V>(cells: &[Cell<M, V>], n: usize, job: &Job, k: usize) -> bool
     ensures { result ≡ true → Roomy cells.now n (length (stops_of job.now)) k }
@@ -191,7 +183,7 @@ fn has_room<M, V>(cells: &[Cell<M, V>], n: usize, job: &Job, k: usize) -> bool
         return false;
     }
     let m = job.len();
-    behind_tables(n, m) + entries(k, m) <= cells.len()
+    behind_tables(n, m) + k * m <= cells.len()
 }
 
 // Prints the plan of entry w, `rows` plans being given before it.

@@ -77,8 +77,8 @@ pub fn stop_at<M, V: Copy>(
     cell_at(cells, i)
 }
 
-// Writes a part of a cell; nothing else changes. The four below write in place through it: with an assignment in each of
-// them, or in their callers, the check does not find by itself that nothing else changes.
+// Writes a part of a cell; nothing else changes. The four below go through it: where each assigns to its own field, the
+// check does not find by itself that nothing else changes.
 fn write<M, V: Copy>(cells: &mut [Cell<M, V>], at: usize, part: Part<V>)
     requires { at < length cells.old }
     ensures { Wrote at part cells.old cells.new }

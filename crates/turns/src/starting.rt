@@ -12,28 +12,12 @@ use measures::Measure;
 use minima::subtrees::fill_minima;
 use waiting::opening::let_all_wait;
 
-// How many pairs n places have.
-fn pairs(n: usize) -> usize
-    requires { n ≤ 64 }
-    ensures { (result ≡ n * n) × (result ≤ 4096) }
-{
-    n * n
-}
-
-// How many pairs of a stop and a place m stops and n places have.
-fn stops_at_places(n: usize, m: usize) -> usize
-    requires { (n ≤ 64) × (m ≤ 12) }
-    ensures { (result ≡ m * n) × (result ≤ 768) }
-{
-    m * n
-}
-
 // Where the waiting subspaces begin, behind the tables for n places and m stops.
 pub fn behind_tables(n: usize, m: usize) -> usize
     requires { (n ≤ 64) × (m ≤ 12) }
     ensures { (result ≡ behind_tables n m) × (result ≤ 4864) }
 {
-    pairs(n) + stops_at_places(n, m)
+    n * n + m * n
 }
 
 // Fills in the job's own values and subtree minima over the street that the cells hold.
@@ -45,7 +29,8 @@ fn fill_tables<M: Measure>(cells: &mut [Cell<M, M::Value>], n: usize, job: &Job)
     fill_minima::<M>(cells, n, job);
 }
 
-// Lets all plans wait in the cells from `base` on, behind the tables.
+// Lets all plans wait in the cells from `base` on, behind the tables. It is apart, as `begin_behind` is, so that a wrong
+// base is refused at its call.
 fn wait_behind<M: Measure>(
     cells: &mut [Cell<M, M::Value>],
     n: usize,

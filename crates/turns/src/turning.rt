@@ -10,7 +10,8 @@ use leaders::advancing::advance;
 use leaders::rows::find_head;
 use measures::Measure;
 
-// Looks among the entries from cell `base` on, behind the tables.
+// Looks among the entries from cell `base` on, behind the tables. It is apart, as `give_behind` is, so that a wrong base is
+// refused at its call.
 fn look_behind<'a, M: Measure>(
     cells: &'a [Cell<M, M::Value>],
     n: usize,

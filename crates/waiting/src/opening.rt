@@ -51,7 +51,7 @@ pub fn let_all_wait<M: Measure>(
         Partition (optional M.Measure.meaning) τ H [] (k * length (stops_of job.now)) (waiting_in cells.new base) }
 {
     let m = job.len();
-    let to = base + room_for(k, m);
+    let to = base + k * m;
     clear(cells, base, to, m);
     let places = [0; 12];
     let board = Board { cells, n, job };

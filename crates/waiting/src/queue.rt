@@ -9,20 +9,13 @@ use measures::Measure;
 use minima::board::Board;
 use tables::access::{cell_at, set_entry};
 
-// How many entries that are no heads stand in front of a row's.
-fn entries_before(m: usize, k: usize, row: usize) -> usize
-    requires { (1 ≤ m) × (m ≤ 12) × (k ≤ 256) × (row < k) }
-    ensures { (result ≡ row * (m - 1)) × (k + result + (m - 1) ≤ k * m) × (k + result ≤ 3072) }
-{
-    row * (m - 1)
-}
-
 // Where the entries of a row begin that are not its head, counted from the first head on.
+#[tactic(auto, using(crate::proofs::Stepping::row_ends))]
 pub fn row_start(m: usize, k: usize, row: usize) -> usize
     requires { (1 ≤ m) × (m ≤ 12) × (k ≤ 256) × (row < k) }
     ensures { (result ≡ row_start m k row) × (result + (m - 1) ≤ k * m) × (result ≤ 3072) }
 {
-    k + entries_before(m, k, row)
+    k + row * (m - 1)
 }
 
 // How many entries k rows have for m stops.
@@ -34,7 +27,7 @@ pub fn room_for(k: usize, m: usize) -> usize
 }
 
 // The plan of entry w is given, for m stops: the part of its subspace at its own depth takes its place, and the others go
-// into row `rows`.
+// into row `rows`. It is apart from `split_off` so that a wrong number of stops is refused at its call.
 fn split_head<M: Measure>(
     cells: &mut [Cell<M, M::Value>],
     n: usize,

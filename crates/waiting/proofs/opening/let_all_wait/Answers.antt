@@ -15,7 +15,7 @@ set_entry-requires g c = let k = c.clear.auto.cells in let r = some_room c.args.
 
 pub returns : goal.returns
 returns g c = let m = g.M.Measure.meaning in
-    let e : c.args.base + c.room_for.result ≡ c.args.base + c.args.k * length (stops_of c.args.job.now) = ap (λ x. c.args.base + x) (c.room_for.ensures.0 ∙ ap (λ x. c.args.k * x) c.len-m.ensures.told) in
+    let e : c.args.base + c.args.k * c.len-m.result ≡ c.args.base + c.args.k * length (stops_of c.args.job.now) = ap (λ x. c.args.base + c.args.k * x) c.len-m.ensures.told in
     let empty : (i : ℕ) → c.args.base ≤ i → i < c.args.base + c.args.k * length (stops_of c.args.job.now) → NoSpace (length (stops_of c.args.job.now)) (entry_in c.clear.new.cells i) =
     λ i h l. let x = c.clear.ensures.empty i h (omega arith) in (x.0, x.1 ∙ c.len-m.ensures.told) in
     let safe : Safe c.args.n (length (stops_of c.args.job.now)) c.first_plan-first.result =
