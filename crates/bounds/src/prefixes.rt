@@ -76,7 +76,7 @@ impl<'a, M: Measure> Prefix<'a, M, M::Value> {
             let p = self.place(parent);
             self.board.hang(s, p)
         } else {
-            Some(M::zero())
+            Some(M::ZERO)
         }
     }
 
@@ -86,7 +86,7 @@ impl<'a, M: Measure> Prefix<'a, M, M::Value> {
         ensures { let b = self.now.board.now in result ≡ (if nat_eq s self.now.i then Some M.Measure.meaning.nought else term_in M.Measure.meaning b.cells.now b.n (stops_of b.job.now) self.now.i (places_of self.now.places.now) s) }
     {
         if s == self.i {
-            Some(M::zero())
+            Some(M::ZERO)
         } else {
             self.term(s)
         }
@@ -96,7 +96,7 @@ impl<'a, M: Measure> Prefix<'a, M, M::Value> {
     fn rest(&self) -> Option<M::Value>
         ensures { let b = self.now.board.now in result ≡ rest_in M.Measure.meaning b.cells.now b.n (stops_of b.job.now) self.now.i (places_of self.now.places.now) }
     {
-        let mut sum = Some(M::zero());
+        let mut sum = Some(M::ZERO);
         for s in 0..self.board.job.len() {
             sum = join_options::<M>(sum, self.other(s));
         }
@@ -110,7 +110,7 @@ impl<'a, M: Measure> Prefix<'a, M, M::Value> {
             result ≡ (if nat_eq self.now.i 0 then Some M.Measure.meaning.nought else link_in b.cells.now b.n stops self.now.i (places_of self.now.places.now (parent_in stops self.now.i)) q) }
     {
         if self.i == 0 {
-            return Some(M::zero());
+            return Some(M::ZERO);
         }
         let p = self.place(parent_at(self.board.job, self.i));
         self.board.link(self.i, p, q)
@@ -125,15 +125,24 @@ impl<'a, M: Measure> Prefix<'a, M, M::Value> {
         join_options::<M>(link, self.board.best(self.i, q))
     }
 
-    // The bound of the prefix with place q for stop i: the least score of the plans that have these places; none where
-    // there is no such plan. `rest` is what all other stops add, joined once for all places q.
-    pub fn bound(&self, rest: Option<M::Value>, q: usize) -> Option<M::Value>
+    // The bound of the prefix with place q for stop i, where `rest` is what all other stops add, joined once for all q.
+    fn bound_with(&self, rest: Option<M::Value>, q: usize) -> Option<M::Value>
         requires { let b = self.now.board.now in (q < b.n) × (rest ≡ rest_in M.Measure.meaning b.cells.now b.n (stops_of b.job.now) self.now.i (places_of self.now.places.now)) }
         ensures { let b = self.now.board.now in (τ : Task (Option M.Value)) (H : ℕ → ℕ → Option M.Value) → Tables M.Measure.meaning b.cells.now b.n (stops_of b.job.now) τ H →
             result ≡ bound (optional M.Measure.meaning) τ H (self.now.i + 1) (put (places_of self.now.places.now) self.now.i q) }
     {
         let here = self.here(q);
         join_options::<M>(rest, here)
+    }
+
+    // The bound of the prefix with place q for stop i: the least score of the plans that have these places; none where
+    // there is no such plan.
+    pub fn bound(&self, q: usize) -> Option<M::Value>
+        requires { q < self.now.board.now.n }
+        ensures { let b = self.now.board.now in (τ : Task (Option M.Value)) (H : ℕ → ℕ → Option M.Value) → Tables M.Measure.meaning b.cells.now b.n (stops_of b.job.now) τ H →
+            result ≡ bound (optional M.Measure.meaning) τ H (self.now.i + 1) (put (places_of self.now.places.now) self.now.i q) }
+    {
+        self.bound_with(self.rest(), q)
     }
 
     // Place q as a choice for stop i, with its bound.
@@ -143,7 +152,7 @@ impl<'a, M: Measure> Prefix<'a, M, M::Value> {
         ensures value { let b = self.now.board.now in (τ : Task (Option M.Value)) (H : ℕ → ℕ → Option M.Value) → Tables M.Measure.meaning b.cells.now b.n (stops_of b.job.now) τ H →
             result.value ≡ bound (optional M.Measure.meaning) τ H (self.now.i + 1) (put (places_of self.now.places.now) self.now.i q) }
     {
-        let value = self.bound(rest, q);
+        let value = self.bound_with(rest, q);
         Choice {
             place: q as u8,
             value,

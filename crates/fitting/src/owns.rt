@@ -16,21 +16,14 @@ use measures::Measure;
 use minima::board::Board;
 use tables::access::{set_own, stop_place};
 
-// The kind that a stop wants; past the last stop any.
-fn wanted_kind(job: &Job, s: usize) -> u8
-    ensures { result ≡ kind_of (slice_get (stops_of job.now) s) }
+// Whether a place of a kind may stand for stop s; past the last stop any may.
+fn kind_fits(job: &Job, s: usize, kind: u8) -> bool
+    ensures { result ≡ fits (kind_of (slice_get (stops_of job.now) s)) kind }
 {
     match job.stop(s) {
-        Some(stop) => stop.kind,
-        None => 0,
+        Some(stop) => stop.takes(kind),
+        None => true,
     }
-}
-
-// Whether a place's kind is the one that a stop wants; a stop of kind 0 takes any.
-fn kind_fits(wanted: u8, kind: u8) -> bool
-    ensures { result ≡ fits wanted kind }
-{
-    wanted == 0 || wanted == kind
 }
 
 // The own value of a stop at a place: zero where the place fits, none elsewhere.
@@ -38,8 +31,8 @@ fn own_value<M: Measure>(board: &Board<'_, M, M::Value>, s: usize, q: usize) -> 
     requires { q < board.now.n }
     ensures { let b = board.now in result ≡ own_by M.Measure.meaning b.cells.now b.n (stops_of b.job.now) s q }
 {
-    if kind_fits(wanted_kind(board.job, s), board.kind(q)) {
-        Some(M::zero())
+    if kind_fits(board.job, s, board.kind(q)) {
+        Some(M::ZERO)
     } else {
         None
     }

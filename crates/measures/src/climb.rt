@@ -1,5 +1,5 @@
-ghost use Rattle.std.specs.Prelude.{◌≡◌};
-ghost use Rattle.measures.specs.Climb.{climb_meaning};
+ghost use Rattle.std.specs.Prelude.{◌≡◌, refl};
+ghost use Rattle.measures.specs.Climb.{climb_of, climb_meaning};
 ghost use Rattle.std.proofs.Common.{rules};
 ghost use Rattle.measures.specs.Climbs.{climb_laws};
 
@@ -16,14 +16,16 @@ impl Measure for Climb {
 
     ghost meaning = { climb_meaning };
 
+    ghost ZERO = { climb_of 0 0 };
+
+    const ZERO: ClimbValue = ClimbValue {
+        climb: 0,
+        seconds: 0,
+    };
+
     ghost lawful = { record { laws = climb_laws; showable = λ a. a.fits; named = Prim.search rules } };
 
-    fn zero() -> ClimbValue {
-        ClimbValue {
-            climb: 0,
-            seconds: 0,
-        }
-    }
+    ghost zero_is = { refl };
 
     fn leg(climb: u16, seconds: u16) -> ClimbValue {
         ClimbValue {
@@ -33,10 +35,10 @@ impl Measure for Climb {
     }
 
     fn join(a: ClimbValue, b: ClimbValue) -> ClimbValue {
-        if a == Self::zero() {
+        if a == Self::ZERO {
             return b;
         }
-        if b == Self::zero() {
+        if b == Self::ZERO {
             return a;
         }
         let climb = a.climb.saturating_add(b.climb);
@@ -60,7 +62,7 @@ impl Measure for Climb {
         Shown::Two(value.climb, value.seconds)
     }
 
-    fn name<'a>() -> &'a str {
+    fn name() -> &'static str {
         "climb"
     }
 }

@@ -22,8 +22,10 @@ pub trait Measure {
 
     ghost meaning: { MeasureMeaning Self.Value };
 
-    fn zero() -> Self::Value
-        ensures { result ≡ meaning.nought };
+    ghost ZERO: { Self.Value };
+
+    // the value of nothing: it is before every other, and joined to any it changes nothing
+    const ZERO: Self::Value;
 
     fn leg(climb: u16, seconds: u16) -> Self::Value
         ensures { result ≡ meaning.legged climb seconds };
@@ -37,8 +39,10 @@ pub trait Measure {
     fn show(value: Self::Value) -> Shown
         ensures { result ≡ meaning.shown value };
 
-    fn name<'a>() -> &'a str
+    fn name() -> &'static str
         ensures { result.now ≡ meaning.called };
 
     ghost lawful: { Lawful meaning };
+
+    ghost zero_is: { ZERO ≡ meaning.nought };
 }

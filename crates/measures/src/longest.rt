@@ -1,5 +1,5 @@
-ghost use Rattle.std.specs.Prelude.{◌≡◌};
-ghost use Rattle.measures.specs.Longest.{longest_meaning};
+ghost use Rattle.std.specs.Prelude.{◌≡◌, refl};
+ghost use Rattle.measures.specs.Longest.{longest_of, longest_meaning};
 ghost use Rattle.std.proofs.Common.{rules};
 ghost use Rattle.measures.specs.Numbers.{longest_laws};
 
@@ -16,11 +16,13 @@ impl Measure for Longest {
 
     ghost meaning = { longest_meaning };
 
+    ghost ZERO = { longest_of 0 };
+
+    const ZERO: LongestValue = LongestValue { seconds: 0 };
+
     ghost lawful = { record { laws = longest_laws; showable = λ a. a.fits; named = Prim.search rules } };
 
-    fn zero() -> LongestValue {
-        LongestValue { seconds: 0 }
-    }
+    ghost zero_is = { refl };
 
     fn leg(_climb: u16, seconds: u16) -> LongestValue {
         LongestValue {
@@ -40,7 +42,7 @@ impl Measure for Longest {
         Shown::One(value.seconds)
     }
 
-    fn name<'a>() -> &'a str {
+    fn name() -> &'static str {
         "longest"
     }
 }

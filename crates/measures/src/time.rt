@@ -1,5 +1,5 @@
-ghost use Rattle.std.specs.Prelude.{◌≡◌};
-ghost use Rattle.measures.specs.Time.{time_meaning};
+ghost use Rattle.std.specs.Prelude.{◌≡◌, refl};
+ghost use Rattle.measures.specs.Time.{time_of, time_meaning};
 ghost use Rattle.std.proofs.Common.{rules};
 ghost use Rattle.measures.specs.Numbers.{time_laws};
 
@@ -16,11 +16,13 @@ impl Measure for Time {
 
     ghost meaning = { time_meaning };
 
+    ghost ZERO = { time_of 0 };
+
+    const ZERO: TimeValue = TimeValue { seconds: 0 };
+
     ghost lawful = { record { laws = time_laws; showable = λ a. a.fits; named = Prim.search rules } };
 
-    fn zero() -> TimeValue {
-        TimeValue { seconds: 0 }
-    }
+    ghost zero_is = { refl };
 
     fn leg(_climb: u16, seconds: u16) -> TimeValue {
         TimeValue {
@@ -42,7 +44,7 @@ impl Measure for Time {
         Shown::One(value.seconds)
     }
 
-    fn name<'a>() -> &'a str {
+    fn name() -> &'static str {
         "time"
     }
 }

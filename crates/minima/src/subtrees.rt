@@ -26,7 +26,7 @@ impl<'a, M: Measure> Board<'a, M, M::Value> {
         if is_child(self.job, s, c) {
             self.hang(c, q)
         } else {
-            Some(M::zero())
+            Some(M::ZERO)
         }
     }
 
@@ -35,7 +35,7 @@ impl<'a, M: Measure> Board<'a, M, M::Value> {
         requires { (s < length (stops_of self.now.job.now)) × (q < self.now.n) }
         ensures { result ≡ both M.Measure.meaning.joined (own_in self.now.cells.now self.now.n s q) (hanging_in M.Measure.meaning self.now.cells.now self.now.n (stops_of self.now.job.now) s q) }
     {
-        let mut sum = Some(M::zero());
+        let mut sum = Some(M::ZERO);
         for c in 0..self.job.len() {
             sum = join_options::<M>(sum, self.hanging(s, q, c));
         }

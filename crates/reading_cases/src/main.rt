@@ -156,8 +156,8 @@ fn job_case(rt: &HostRuntime, text: &str) -> anyhow::Result<()> {
         Err(fault) => print_fault(rt, fault)?,
     }
     print!(rt; "  job")?;
-    for stop in (0..job.len()).filter_map(|s| job.stop(s)) {
-        print!(rt; " {}", ShownStop(stop))?;
+    for stop in job.stops() {
+        print!(rt; " {}", ShownStop(*stop))?;
     }
     println!(rt)?;
     Ok(())

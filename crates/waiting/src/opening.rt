@@ -24,13 +24,7 @@ fn clear<M, V: Copy>(cells: &mut [Cell<M, V>], from: usize, to: usize, m: usize)
     ensures empty { (i : ℕ) → from ≤ i → i < to → NoSpace m (entry_in cells.new i) }
 {
     for i in from..to {
-        let empty = Entry {
-            score: None,
-            places: [0; 12],
-            depth: m,
-            excluded: PlaceSet::empty(),
-        };
-        set_entry(cells, i, empty);
+        set_entry(cells, i, Entry::without_plan(m));
     }
 }
 

@@ -2,7 +2,7 @@ use Rattle.std.proofs.Common.{◌∙◌, ap₂}
 use Rattle.measures.specs.Optional.{both}
 use Rattle.cells.specs.Cells.{places_of}
 use Rattle.bounds.proofs.Bounding.{bound_is}
-use Rattle.bounds.proofs.prefixes.Prefix+M+M+Value.bound.Goals as goal
+use Rattle.bounds.proofs.prefixes.Prefix+M+M+Value.bound_with.Goals as goal
 
 pub returns : goal.returns
 returns g c = λ τ H tables. let m = g.M.Measure.meaning in let p = c.args.self.now in let b = p.board.now in c.join_options.ensures ∙ ap₂ (both m.joined) c.requires.1 c.here-here.ensures
