@@ -6,7 +6,7 @@ use crate::rows::promote;
 use cells::cell::Cell;
 use jobs::job::Job;
 use measures::Measure;
-use waiting::queue::split_off;
+use waiting::queue::{Entries, split_off};
 
 // Splits what is left with the plan of head w, for m stops; the two rows that change get their leaders again. It is apart
 // from `advance` so that a wrong number of stops is refused at its call.
@@ -24,8 +24,9 @@ fn split_and_lead<M: Measure>(
     ensures { Advanced M.Measure.meaning (stops_of job.now) n base k rows w cells.old cells.new }
 {
     split_off::<M>(cells, n, job, base, k, rows, w);
-    promote::<M>(cells, base, m, k, w);
-    promote::<M>(cells, base, m, k, rows);
+    let entries = Entries { base, m, k };
+    promote::<M>(cells, &entries, w);
+    promote::<M>(cells, &entries, rows);
 }
 
 // The plan of head w is given: the other plans that waited with it wait on, and every row in use is led by its head.

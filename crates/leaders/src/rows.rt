@@ -15,7 +15,7 @@ use jobs::job::Job;
 use measures::Measure;
 use tables::access::{cell_at, set_entry};
 use waiting::picking::{least_in, with_plan};
-use waiting::queue::row_start;
+use waiting::queue::Entries;
 
 // Two waiting subspaces change places; nothing else changes.
 fn exchange<M, V: Copy>(cells: &mut [Cell<M, V>], a: usize, b: usize)
@@ -52,56 +52,41 @@ fn lead<M: Measure>(cells: &mut [Cell<M, M::Value>], head: usize, at: usize)
 // The earliest entry of a row behind its head, counted from the first behind it.
 fn earliest_behind<'a, M: Measure>(
     cells: &'a [Cell<M, M::Value>],
-    base: usize,
-    m: usize,
-    k: usize,
+    entries: &Entries,
     row: usize,
 ) -> usize
 where
     M: 'a,
     M::Value: 'a,
-    requires { (2 ≤ m) × (m ≤ 12) × (k ≤ 256) × (row < k) × (base ≤ 4864) × (base + k * m ≤ length cells.now) }
-    ensures { Earliest M.Measure.meaning cells.now base m k row result }
+    requires { let e = entries.now in (2 ≤ e.m) × (row < e.k) × (e.base + e.k * e.m ≤ length cells.now) }
+    ensures { let e = entries.now in Earliest M.Measure.meaning cells.now e.base e.m e.k row result }
 {
-    let start = base + row_start(m, k, row);
-    match least_in::<M>(cells, start, start + (m - 1)) {
+    let start = entries.behind(row);
+    match least_in::<M>(cells, start, start + (entries.m - 1)) {
         Some(u) => u,
         None => unreachable(),
     }
 }
 
 // The earlier of a row's head and its entry u behind the head becomes the head.
-fn lead_row<M: Measure>(
-    cells: &mut [Cell<M, M::Value>],
-    base: usize,
-    m: usize,
-    k: usize,
-    row: usize,
-    u: usize,
-)
-    requires { (1 ≤ m) × (m ≤ 12) × (k ≤ 256) × (row < k) × (base ≤ 4864) × (base + k * m ≤ length cells.old) × (u < m - 1) }
-    ensures led { Earliest M.Measure.meaning cells.old base m k row u → Led M.Measure.meaning cells.new base m k row }
-    ensures promoted { Promoted cells.old cells.new base m k row }
+fn lead_row<M: Measure>(cells: &mut [Cell<M, M::Value>], entries: &Entries, row: usize, u: usize)
+    requires { let e = entries.now in (row < e.k) × (e.base + e.k * e.m ≤ length cells.old) × (u < e.m - 1) }
+    ensures led { let e = entries.now in Earliest M.Measure.meaning cells.old e.base e.m e.k row u → Led M.Measure.meaning cells.new e.base e.m e.k row }
+    ensures promoted { let e = entries.now in Promoted cells.old cells.new e.base e.m e.k row }
 {
-    let at = base + row_start(m, k, row) + u;
-    lead::<M>(cells, base + row, at);
+    let at = entries.behind(row) + u;
+    lead::<M>(cells, entries.base + row, at);
 }
 
 // The earliest entry of a row becomes its head.
-pub fn promote<M: Measure>(
-    cells: &mut [Cell<M, M::Value>],
-    base: usize,
-    m: usize,
-    k: usize,
-    row: usize,
-)
-    requires { (1 ≤ m) × (m ≤ 12) × (k ≤ 256) × (row < k) × (base ≤ 4864) × (base + k * m ≤ length cells.old) }
-    ensures led { Led M.Measure.meaning cells.new base m k row }
-    ensures promoted { Promoted cells.old cells.new base m k row }
+pub fn promote<M: Measure>(cells: &mut [Cell<M, M::Value>], entries: &Entries, row: usize)
+    requires { let e = entries.now in (row < e.k) × (e.base + e.k * e.m ≤ length cells.old) }
+    ensures led { let e = entries.now in Led M.Measure.meaning cells.new e.base e.m e.k row }
+    ensures promoted { let e = entries.now in Promoted cells.old cells.new e.base e.m e.k row }
 {
-    if m > 1 {
-        let u = earliest_behind::<M>(cells, base, m, k, row);
-        lead_row::<M>(cells, base, m, k, row, u);
+    if entries.m > 1 {
+        let u = earliest_behind::<M>(cells, entries, row);
+        lead_row::<M>(cells, entries, row, u);
     }
 }
 

@@ -9,13 +9,27 @@ use measures::Measure;
 use minima::board::Board;
 use tables::access::{cell_at, set_entry};
 
-// Where the entries of a row begin that are not its head, counted from the first head on.
-#[tactic(auto, using(crate::proofs::Stepping::row_ends))]
-pub fn row_start(m: usize, k: usize, row: usize) -> usize
-    requires { (1 ≤ m) × (m ≤ 12) × (k ≤ 256) × (row < k) }
-    ensures { (result ≡ row_start m k row) × (result + (m - 1) ≤ k * m) × (result ≤ 3072) }
-{
-    k + row * (m - 1)
+// Where the waiting subspaces of k plans stand, for m stops: k x m entries from cell `base` on, first the heads of the rows.
+#[derive(Clone, Copy)]
+pub struct Entries {
+    pub base: usize,
+    pub m: usize,
+    pub k: usize,
+    pub ghost some: { 1 ≤ m },
+    pub ghost few: { m ≤ 12 },
+    pub ghost most: { k ≤ 256 },
+    pub ghost low: { base ≤ 4864 },
+}
+
+impl Entries {
+    // Where the entries of a row begin that are not its head.
+    #[tactic(auto, using(crate::proofs::Stepping::row_ends))]
+    pub fn behind(&self, row: usize) -> usize
+        requires { row < self.now.k }
+        ensures { (result ≡ self.now.base + row_start self.now.m self.now.k row) × (result + (self.now.m - 1) ≤ self.now.base + self.now.k * self.now.m) × (result ≤ self.now.base + 3072) }
+    {
+        self.base + (self.k + row * (self.m - 1))
+    }
 }
 
 // How many entries k rows have for m stops.
@@ -45,7 +59,8 @@ fn split_head<M: Measure>(
     let board = Board { cells, n, job };
     let here = part_here::<M>(&board, &old);
     set_entry(cells, base + w, here);
-    let start = base + row_start(m, k, rows);
+    let entries = Entries { base, m, k };
+    let start = entries.behind(rows);
     split_rest::<M>(cells, n, job, start, &old.places, old.depth);
 }
 

@@ -17,16 +17,13 @@ overflow_add-base g c = let h = (within c.args.base c.args.w (length (stops_of c
 pub cell_at-requires : goal.cell_at-requires
 cell_at-requires g c = (within c.args.base c.args.w (length (stops_of c.args.job.now)) c.args.k c.args.rows (length c.args.cells.now) (some_stop c.args.job.now) (few_stops c.args.job.now) c.requires.1.most c.requires.1.row c.requires.1.room c.requires.1.used c.requires.1.low).0
 
-pub overflow_add-base-2 : goal.overflow_add-base-2
-overflow_add-base-2 g c = let h = (within c.args.base c.args.w (length (stops_of c.args.job.now)) c.args.k c.args.rows (length c.args.cells.now) (some_stop c.args.job.now) (few_stops c.args.job.now) c.requires.1.most c.requires.1.row c.requires.1.room c.requires.1.used c.requires.1.low).1 in search rules
-
 pub set_entry-requires : goal.set_entry-requires
 set_entry-requires g c = (within c.args.base c.args.w (length (stops_of c.args.job.now)) c.args.k c.args.rows (length c.args.cells.now) (some_stop c.args.job.now) (few_stops c.args.job.now) c.requires.1.most c.requires.1.row c.requires.1.room c.requires.1.used c.requires.1.low).0
 
 pub split_rest-requires : goal.split_rest-requires
 split_rest-requires g c = let r = c.requires.1.ready in let k = c.set_entry.auto.cells in let told = c.requires.0 in
     let e = row_ends (length (stops_of c.args.job.now)) c.args.k c.args.rows (some_stop c.args.job.now) c.requires.1.row in
-    let s : c.row_start.result ≡ row_start (length (stops_of c.args.job.now)) c.args.k c.args.rows = c.row_start.ensures.0 ∙ ap (λ m. row_start m c.args.k c.args.rows) c.requires.0 in (
+    let s : c.behind-start.result ≡ c.args.base + row_start (length (stops_of c.args.job.now)) c.args.k c.args.rows = c.behind-start.ensures.0 ∙ ap (λ m. c.args.base + row_start m c.args.k c.args.rows) c.requires.0 in (
       record { few = r.few; room = (let x = r.room in omega arith) },
       subst (λ (x : Entry g.row.M-Value.Denot). x.depth < length (stops_of c.args.job.now)) (sym c.cell_at.ensures.waiting) c.requires.1.deep,
       subst (λ (x : Entry g.row.M-Value.Denot). (t : ℕ) → t < length (stops_of c.args.job.now) → places_of x.places t < c.args.n) (sym c.cell_at.ensures.waiting) c.requires.1.placed,
@@ -43,9 +40,9 @@ part_here-here-requires g c = (
 pub returns : goal.returns
 returns g c = let meaning = g.M.Measure.meaning in let V = g.row.M-Value.Denot in
     let deep = subst (λ (x : Entry g.row.M-Value.Denot). x.depth < length (stops_of c.args.job.now)) (sym c.cell_at.ensures.waiting) c.requires.1.deep in
-    let at : c.args.base + c.row_start.result ≡ c.args.base + row_start (length (stops_of c.args.job.now)) c.args.k c.args.rows =
-    ap (λ x. c.args.base + x) (c.row_start.ensures.0 ∙ ap (λ m. row_start m c.args.k c.args.rows) c.requires.0) in
-    let facts : Facts c.args.cells.now c.set_entry.new.cells c.split_rest.new.cells c.args.n (length (stops_of c.args.job.now)) c.args.base (c.args.base + c.row_start.result) c.args.w c.cell_at.result.now.entry c.part_here-here.result = record {
+    let at : c.behind-start.result ≡ c.args.base + row_start (length (stops_of c.args.job.now)) c.args.k c.args.rows =
+    c.behind-start.ensures.0 ∙ ap (λ m. c.args.base + row_start m c.args.k c.args.rows) c.requires.0 in
+    let facts : Facts c.args.cells.now c.set_entry.new.cells c.split_rest.new.cells c.args.n (length (stops_of c.args.job.now)) c.args.base (c.behind-start.result) c.args.w c.cell_at.result.now.entry c.part_here-here.result = record {
       there = c.set_entry.ensures.there;
       others = c.set_entry.ensures.others;
       before = c.split_rest.ensures.before;
@@ -58,7 +55,7 @@ returns g c = let meaning = g.M.Measure.meaning in let V = g.row.M-Value.Denot i
       parts = c.split_rest.ensures.parts;
     } in
     let facts' = subst (λ (x : ℕ). Facts c.args.cells.now c.set_entry.new.cells c.split_rest.new.cells c.args.n (length (stops_of c.args.job.now)) c.args.base x c.args.w (entry_in c.args.cells.now (c.args.base + c.args.w)) c.part_here-here.result) at
-    (subst (λ (x : Entry V). Facts c.args.cells.now c.set_entry.new.cells c.split_rest.new.cells c.args.n (length (stops_of c.args.job.now)) c.args.base (c.args.base + c.row_start.result) c.args.w x c.part_here-here.result) c.cell_at.ensures.waiting facts) in
+    (subst (λ (x : Entry V). Facts c.args.cells.now c.set_entry.new.cells c.split_rest.new.cells c.args.n (length (stops_of c.args.job.now)) c.args.base (c.behind-start.result) c.args.w x c.part_here-here.result) c.cell_at.ensures.waiting facts) in
     let mids : (i : ℕ) → i < c.args.base → _ = λ i l. c.set_entry.ensures.others i (λ e. omega arith) in
     record {
       kept = λ i l. c.split_rest.ensures.before i (omega arith) ∙ mids i l;
@@ -71,7 +68,7 @@ returns g c = let meaning = g.M.Measure.meaning in let V = g.row.M-Value.Denot i
           meaning g.met.M.Measure.lawful.laws c.args.job.now τ H tables.holds.size (some_stop c.args.job.now) tables queue
           (c.part_here-here.ensures.first τ H tables)
           (subst (λ (x : ℕ). (u : ℕ) → u < length (stops_of c.args.job.now) - ((entry_in c.args.cells.now (c.args.base + c.args.w)).depth + 1) → First (optional meaning) τ H (space_of (entry_in c.split_rest.new.cells (x + u)))) at
-          (subst (λ (e : Entry V). (u : ℕ) → u < length (stops_of c.args.job.now) - (e.depth + 1) → First (optional meaning) τ H (space_of (entry_in c.split_rest.new.cells (c.args.base + c.row_start.result + u)))) c.cell_at.ensures.waiting
+          (subst (λ (e : Entry V). (u : ℕ) → u < length (stops_of c.args.job.now) - (e.depth + 1) → First (optional meaning) τ H (space_of (entry_in c.split_rest.new.cells (c.behind-start.result + u)))) c.cell_at.ensures.waiting
           (c.split_rest.ensures.firsts τ H (tables_kept c.args.cells.now c.set_entry.new.cells c.args.n c.args.base (stops_of c.args.job.now) c.requires.1.behind mids meaning τ H tables))))
           given waits chosen;
     }
