@@ -13,7 +13,7 @@ pub loop-i-preserved : goal.loop-i-preserved
 loop-i-preserved g c = let V = g.row.V.Denot in let m = c.args.m in (
   (λ i l. c.set_entry.ensures.others i (λ e. omega arith) ∙ c.loop-i.invariant.0 i l),
   λ i h l. ⊎_elim
-      (λ e. subst (λ (x : ℕ). NoSpace c.args.m (entry_in c.set_entry.new.cells x)) (sym e) (subst (λ (x : Entry V). NoSpace c.args.m x) (sym c.set_entry.ensures.there) (refl, refl)))
+      (λ e. subst (λ (x : ℕ). NoSpace c.args.m (entry_in c.set_entry.new.cells x)) (sym e) (subst (λ (x : Entry V). NoSpace c.args.m x) (sym (c.set_entry.ensures.there ∙ c.without_plan.ensures)) (refl, refl)))
       (λ d. subst (λ (x : Entry V). NoSpace c.args.m x) (sym (same_entry c.loop-i.cells c.set_entry.new.cells i (c.set_entry.ensures.others i d))) (c.loop-i.invariant.1 i h (⊎_elim (λ z. absurd (d (omega arith))) (λ z. omega arith) (cases_eq i c.loop-i.i))))
       (cases_eq i c.loop-i.i),
 )
