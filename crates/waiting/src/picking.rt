@@ -10,14 +10,18 @@ ghost use Rattle.waiting.specs.Queues.{waiting_in, row_start, Queue};
 
 use crate::queue::room_for;
 use cells::cell::Cell;
-use tables::access::cell_at;
 use jobs::job::Job;
 use least::least_of;
 use measures::Measure;
+use tables::access::cell_at;
 
 // The least of the waiting subspaces in the cells from one to another, counted from the first of them; none where
 // there is no cell.
-pub fn least_in<'a, M: Measure>(cells: &'a [Cell<M, M::Value>], from: usize, to: usize) -> Option<usize>
+pub fn least_in<'a, M: Measure>(
+    cells: &'a [Cell<M, M::Value>],
+    from: usize,
+    to: usize,
+) -> Option<usize>
 where
     M: 'a,
     M::Value: 'a,
