@@ -1,5 +1,5 @@
 -- The rest, joined to what a stop adds at a place, is the bound.
-use Rattle.std.proofs.Common.{◌≡◌, ℕ, ◌+◌, ◌<◌, ◌≤◌, cond, eqb, ltb, List, length, Some, Option, sym, ap, ◌∙◌, subst, ap₂, ⊎_elim, arith}
+use Rattle.std.proofs.Common.{◌≡◌, ℕ, ◌+◌, ◌<◌, ◌≤◌, Bool, ◌&&◌, cond, eqb, ltb, List, length, Some, Option, sym, ap, ◌∙◌, subst, ap₂, ⊎_elim, arith}
 use Rattle.measures.specs.Optional.{both}
 use Rattle.std.proofs.lemmas.Bool.{cases_lt, cases_eq, cond-false, ne_eqb}
 use Rattle.std.proofs.lemmas.Bool.Decides.{nat_tests}
@@ -9,12 +9,12 @@ use Rattle.jobs.specs.declared.job.Job.{Job}
 use Rattle.jobs.specs.Jobs.{stops_of}
 use Rattle.measures.specs.Scales.{optional, total}
 use Rattle.trees.specs.Tasks.{Task, cost, put}
-use Rattle.trees.specs.Minima.{hanging, term, bound, besides}
+use Rattle.trees.specs.Minima.{child, hanging, term, bound, besides}
 use Rattle.trees.proofs.Lift.{lifted}
 use Rattle.trees.proofs.Bounds.{total_same, bound_more, bound_root, besides_root}
 use Rattle.cells.specs.declared.cell.Cell.{Cell}
-use Rattle.tables.specs.Tables.{best_in}
-use Rattle.minima.specs.Tables.{parent_in, Tables}
+use Rattle.tables.specs.Tables.{own_in, hang_in}
+use Rattle.minima.specs.Tables.{parent_in, hanging_in, Tables}
 use Rattle.jobs.proofs.Ties.{tied_below, both_below}
 use Rattle.bounds.specs.declared.choice.Choice.{Choice}
 use Rattle.bounds.specs.Prefixes.{term_in, cost_in, rest_in, here_in, Picking}
@@ -27,6 +27,9 @@ same_cond s i p a a' b b' d h k = grind (arith, nat_tests)
 
 same_root : {W : Type 0} (s : ℕ) (a a' b b' : W) → (s ≡ 0 → a ≡ a') → (0 < s → b ≡ b') → cond (eqb s 0) a b ≡ cond (eqb s 0) a' b'
 same_root s a a' b b' h k = grind (arith, nat_tests)
+
+same_child : {W : Type 0} (c : ℕ) (b : Bool) (a a' d : W) → (0 < c → a ≡ a') → cond (ltb 0 c && b) a d ≡ cond (ltb 0 c && b) a' d
+same_child c b a a' d h = grind (arith, nat_tests)
 
 module _ {M V : Type 0} (meaning : MeasureMeaning V) (laws : Laws meaning.nought meaning.joined meaning.before)
     (cells : List (Cell M V)) (n : ℕ) (j : Job) (τ : Task (Option V)) (H : ℕ → ℕ → Option V) (tables : Tables meaning cells n (stops_of j) τ H) where
@@ -47,6 +50,16 @@ module _ {M V : Type 0} (meaning : MeasureMeaning V) (laws : Laws meaning.nought
           (λ ge h. tables.hangs s (P (parent_in (stops_of j) s)) (omega arith) l (small (parent_in (stops_of j) s) h) ∙ ap (λ p. H s (P p)) e)
           ∙ ap (λ p. cond (ltb s i) (cost (optional meaning) τ s (P (τ.par s)) (P s)) (cond (ltb p i) (H s (P (τ.par s))) (Some meaning.nought))) e
 
+  -- a stop and what hangs on it, in the cells and in the task
+  subtree_is : (s q : ℕ) → s < length (stops_of j) → q < n →
+      both meaning.joined (own_in cells n s q) (hanging_in meaning cells n (stops_of j) s q) ≡ both meaning.joined (τ.own s q) (hanging (optional meaning) τ H s q)
+  unfolding hanging
+  subtree_is s q l h = ap₂ (both meaning.joined) (tables.holds.owns s q l h)
+      (total_same (optional meaning) (lifted meaning laws) (length (stops_of j)) _ _ each ∙ ap (λ m. total (optional meaning) m (λ c. cond (child τ s c) (H c q) (Some meaning.nought))) (sym tables.holds.size))
+    where
+      each : (c : ℕ) → c < length (stops_of j) → cond (ltb 0 c && eqb (parent_in (stops_of j) c) s) (hang_in cells n c q) (Some meaning.nought) ≡ cond (child τ s c) (H c q) (Some meaning.nought)
+      each c k = ap (λ p. cond (ltb 0 c && eqb p s) (hang_in cells n c q) (Some meaning.nought)) (tables.holds.parents c k) ∙ same_child c (eqb (τ.par c) s) _ _ _ (λ z. tables.hangs c q z k h)
+
   -- the link first and then the subtree, or the cost of the stop first and then what hangs on it
   regroup : (own link hung : Option V) → both meaning.joined link (both meaning.joined own hung) ≡ both meaning.joined (both meaning.joined own link) hung
   regroup own link hung = let s = (lifted meaning laws).laws in sym (s.assoc link own hung) ∙ ap (λ v. both meaning.joined v hung) (s.comm link own)
@@ -55,7 +68,7 @@ module _ {M V : Type 0} (meaning : MeasureMeaning V) (laws : Laws meaning.nought
     -- behind the root
     here_is : 0 < i → here_in meaning cells n (stops_of j) i P q ≡ both meaning.joined (cost (optional meaning) τ i (P (τ.par i)) q) (hanging (optional meaning) τ H i q)
     unfolding cost
-    here_is z = ap₂ (both meaning.joined) (cond-false (eqb i 0) _ _ (ne_eqb i 0 (λ e. omega arith)) ∙ tables.holds.links i (P (parent_in (stops_of j) i)) q z l (small (parent_in (stops_of j) i) ((both_below j i).1 z)) h ∙ ap (λ p. τ.link i (P p) q) (tables.holds.parents i l)) (tables.bests i q l h)
+    here_is z = ap₂ (both meaning.joined) (cond-false (eqb i 0) _ _ (ne_eqb i 0 (λ e. omega arith)) ∙ tables.holds.links i (P (parent_in (stops_of j) i)) q z l (small (parent_in (stops_of j) i) ((both_below j i).1 z)) h ∙ ap (λ p. τ.link i (P p) q) (tables.holds.parents i l)) (subtree_is i q l h)
         ∙ regroup (τ.own i q) (τ.link i (P (τ.par i)) q) (hanging (optional meaning) τ H i q)
         ∙ ap (λ v. both meaning.joined v (hanging (optional meaning) τ H i q)) (sym (cond-false (eqb i 0) _ _ (ne_eqb i 0 (λ e. omega arith))))
 
@@ -65,7 +78,7 @@ module _ {M V : Type 0} (meaning : MeasureMeaning V) (laws : Laws meaning.nought
   -- and at the root
   root_is : (P : ℕ → ℕ) (q : ℕ) → 0 < length (stops_of j) → q < n → both meaning.joined (rest_in meaning cells n (stops_of j) 0 P) (here_in meaning cells n (stops_of j) 0 P q) ≡ bound (optional meaning) τ H 1 (put P 0 q)
   root_is P q l h = let s = (lifted meaning laws).laws in let some : 0 < τ.m = (let e = tables.holds.size in omega arith) in
-      ap₂ (both meaning.joined) (rest_is 0 P l (λ t k. absurd (omega arith)) ∙ besides_root (optional meaning) (lifted meaning laws) τ H tables.holds.rooted P some) (s.zero_joined (best_in cells n 0 q) ∙ tables.bests 0 q l h)
+      ap₂ (both meaning.joined) (rest_is 0 P l (λ t k. absurd (omega arith)) ∙ besides_root (optional meaning) (lifted meaning laws) τ H tables.holds.rooted P some) (s.zero_joined (both meaning.joined (own_in cells n 0 q) (hanging_in meaning cells n (stops_of j) 0 q)) ∙ subtree_is 0 q l h)
       ∙ s.zero_joined _ ∙ sym (bound_root (optional meaning) (lifted meaning laws) τ H tables.holds.rooted P some q)
 
   pub bound_is : (i : ℕ) (P : ℕ → ℕ) (q : ℕ) → i < length (stops_of j) → q < n → ((t : ℕ) → t < i → P t < n) →

@@ -10,8 +10,8 @@ use Rattle.trees.specs.Minima.{bound}
 use Rattle.trees.specs.Subspaces.{Picked}
 use Rattle.cells.specs.declared.cell.Cell.{Cell}
 use Rattle.cells.specs.Cells.{places_of}
-use Rattle.tables.specs.Tables.{own_in, best_in, hang_in}
-use Rattle.minima.specs.Tables.{parent_in, link_in}
+use Rattle.tables.specs.Tables.{own_in, hang_in}
+use Rattle.minima.specs.Tables.{parent_in, link_in, hanging_in}
 use Rattle.bounds.specs.declared.choice.Choice.{Choice}
 
 -- what stop s adds at place q where its parent stands at place p
@@ -26,9 +26,10 @@ term_in meaning cells n stops i P s = cond (nat_lt s i) (cost_in meaning cells n
 abbrev pub rest_in : {M V : Type 0} → MeasureMeaning V → List (Cell M V) → ℕ → List Stop → ℕ → (ℕ → ℕ) → Option V
 rest_in meaning cells n stops i P = total (optional meaning) (length stops) (λ s. cond (s == i) (Some meaning.nought) (term_in meaning cells n stops i P s))
 
--- what stop i and all below it add at place q: the link from its parent's place, which the root has not, and its subtree
+-- what stop i and all below it add at place q: the link from its parent's place, which the root has not, its own value,
+-- and what hangs on it
 abbrev pub here_in : {M V : Type 0} → MeasureMeaning V → List (Cell M V) → ℕ → List Stop → ℕ → (ℕ → ℕ) → ℕ → Option V
-here_in meaning cells n stops i P q = both meaning.joined (cond (i == 0) (Some meaning.nought) (link_in cells n stops i (P (parent_in stops i)) q)) (best_in cells n i q)
+here_in meaning cells n stops i P q = both meaning.joined (cond (i == 0) (Some meaning.nought) (link_in cells n stops i (P (parent_in stops i)) q)) (both meaning.joined (own_in cells n i q) (hanging_in meaning cells n stops i q))
 
 -- of the places below k for stop i that are not excluded, the first whose bound is least
 abbrev pub Picking : {V : Type 0} → MeasureMeaning V → Task (Option V) → (ℕ → ℕ → Option V) → List ℕ → ℕ → ℕ → ℕ → Choice V → Type 0

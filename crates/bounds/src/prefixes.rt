@@ -122,7 +122,7 @@ impl<'a, M: Measure> Prefix<'a, M, M::Value> {
         ensures { let b = self.now.board.now in result ≡ here_in M.Measure.meaning b.cells.now b.n (stops_of b.job.now) self.now.i (places_of self.now.places.now) q }
     {
         let link = self.link_to(q);
-        join_options::<M>(link, self.board.best(self.i, q))
+        join_options::<M>(link, self.board.best_value(self.i, q))
     }
 
     // The bound of the prefix with place q for stop i, where `rest` is what all other stops add, joined once for all q.

@@ -143,9 +143,6 @@ module _ {M V : Type 0} where
       hanging_is s q = total_same (optional meaning) (lifted meaning laws) (length (stops_of j)) _ _ (λ c l. ap (λ p. cond (ltb 0 c && eqb p s) (hang_in cells n c q) (Some meaning.nought)) (holds.parents c l))
           ∙ ap (λ m. total (optional meaning) m (λ c. cond (child τ s c) (hang_in cells n c q) (Some meaning.nought))) (sym holds.size)
 
-      pub bests_are : ((s : ℕ) → s < length (stops_of j) → RowIn meaning cells n (stops_of j) s) → (s q : ℕ) → s < length (stops_of j) → q < n → best_in cells n s q ≡ both meaning.joined (τ.own s q) (hanging (optional meaning) τ (hang_in cells n) s q)
-      bests_are rows s q l h = (rows s l).best q h ∙ ap₂ (both meaning.joined) (holds.owns s q l h) (hanging_is s q)
-
       -- the rows are the minima of the task
       pub minimal_is : ((s : ℕ) → s < length (stops_of j) → RowIn meaning cells n (stops_of j) s) → Minimal (optional meaning) τ (hang_in cells n)
       unfolding cost

@@ -68,10 +68,8 @@ pub record RowIn {M V : Type 0} (meaning : MeasureMeaning V) (cells : List (Cell
   pub best : (q : ℕ) → q < n → best_in cells n s q ≡ both meaning.joined (own_in cells n s q) (hanging_in meaning cells n stops s q)
   pub hang : (p : ℕ) → p < n → IsLeast (optional meaning) n (λ q. both meaning.joined (link_in cells n stops s p q) (best_in cells n s q)) (hang_in cells n s p)
 
--- the cells hold the task τ and the minima of its subtrees: H from each place of a stop's parent, and at each place of the
--- stop itself its own value joined to what hangs on it
+-- the cells hold the task τ and the minima of its subtrees, from each place of a stop's parent
 pub record Tables {M V : Type 0} (meaning : MeasureMeaning V) (cells : List (Cell M V)) (n : ℕ) (stops : List Stop) (τ : Task (Option V)) (H : ℕ → ℕ → Option V) : Type 0 where
   pub holds : Holds cells n stops τ
   pub hangs : (s p : ℕ) → 0 < s → s < length stops → p < n → hang_in cells n s p ≡ H s p
-  pub bests : (s q : ℕ) → s < length stops → q < n → best_in cells n s q ≡ both meaning.joined (τ.own s q) (hanging (optional meaning) τ H s q)
   pub minimal : Minimal (optional meaning) τ H

@@ -18,26 +18,32 @@ use measures::optional::join_options;
 use tables::access::{set_best, set_hang, stop_place};
 
 impl<'a, M: Measure> Board<'a, M, M::Value> {
-    // What stop c adds to the subtree of stop s at place q.
-    fn hanging(&self, s: usize, q: usize, c: usize) -> Option<M::Value>
+    // A sum with what stop c adds to the subtree of stop s at place q, nothing where it does not hang on s.
+    fn with_hanging(
+        &self,
+        sum: Option<M::Value>,
+        s: usize,
+        q: usize,
+        c: usize,
+    ) -> Option<M::Value>
         requires { (q < self.now.n) × (c < length (stops_of self.now.job.now)) }
-        ensures { result ≡ (if child_in (stops_of self.now.job.now) s c then hang_in self.now.cells.now self.now.n c q else Some M.Measure.meaning.nought) }
+        ensures { result ≡ both M.Measure.meaning.joined sum (if child_in (stops_of self.now.job.now) s c then hang_in self.now.cells.now self.now.n c q else Some M.Measure.meaning.nought) }
     {
         if is_child(self.job, s, c) {
-            self.hang(c, q)
+            join_options::<M>(sum, self.hang(c, q))
         } else {
-            Some(M::ZERO)
+            sum
         }
     }
 
     // The least value of the subtree of stop s at place q, where the stops that hang on it have theirs.
-    fn best_value(&self, s: usize, q: usize) -> Option<M::Value>
+    pub fn best_value(&self, s: usize, q: usize) -> Option<M::Value>
         requires { (s < length (stops_of self.now.job.now)) × (q < self.now.n) }
         ensures { result ≡ both M.Measure.meaning.joined (own_in self.now.cells.now self.now.n s q) (hanging_in M.Measure.meaning self.now.cells.now self.now.n (stops_of self.now.job.now) s q) }
     {
         let mut sum = Some(M::ZERO);
         for c in 0..self.job.len() {
-            sum = join_options::<M>(sum, self.hanging(s, q, c));
+            sum = self.with_hanging(sum, s, q, c);
         }
         join_options::<M>(self.own(s, q), sum)
     }

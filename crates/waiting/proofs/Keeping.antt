@@ -5,7 +5,7 @@ use Rattle.measures.specs.Meaning.{MeasureMeaning}
 use Rattle.jobs.specs.declared.stops.Stop.{Stop}
 use Rattle.trees.specs.Tasks.{Task}
 use Rattle.cells.specs.declared.cell.Cell.{Cell}
-use Rattle.tables.specs.Tables.{blank, leg_in, ride_in, own_in, best_in, hang_in, entry_in, Kept}
+use Rattle.tables.specs.Tables.{blank, leg_in, ride_in, own_in, hang_in, entry_in, Kept}
 use Rattle.minima.specs.Tables.{by_tie, tie_in, link_in, Tables}
 
 module _ {M V : Type 0} (old new : List (Cell M V)) (n k : ℕ) (stops : List Stop) (behind : n * n + length stops * n ≤ k) (kept : Kept k old new) where
@@ -16,10 +16,6 @@ module _ {M V : Type 0} (old new : List (Cell M V)) (n k : ℕ) (stops : List St
   hang_kept : (s p : ℕ) → s < length stops → p < n → hang_in new n s p ≡ hang_in old n s p
   unfolding hang_in
   hang_kept s p h l = let x = mul-add-lt s n p (length stops) h l in ap (λ (c : Cell M V). c.hang) (kept (n * n + (s * n + p)) (omega arith))
-
-  best_kept : (s q : ℕ) → s < length stops → q < n → best_in new n s q ≡ best_in old n s q
-  unfolding best_in
-  best_kept s q h l = let x = mul-add-lt s n q (length stops) h l in ap (λ (c : Cell M V). c.best) (kept (n * n + (s * n + q)) (omega arith))
 
   link_kept : (s p q : ℕ) → p < n → q < n → link_in new n stops s p q ≡ link_in old n stops s p q
   unfolding leg_in ride_in
@@ -36,7 +32,6 @@ module _ {M V : Type 0} (old new : List (Cell M V)) (n k : ℕ) (stops : List St
       rooted = tables.holds.rooted;
     };
     hangs = λ s p z l h. hang_kept s p l h ∙ tables.hangs s p z l h;
-    bests = λ s q l h. best_kept s q l h ∙ tables.bests s q l h;
     minimal = tables.minimal;
   }
 

@@ -1,5 +1,5 @@
 use Rattle.std.proofs.Common.{refl}
-use Rattle.minima.proofs.Rows.{fits, holds_stays, bests_are, minimal_is, least_is}
+use Rattle.minima.proofs.Rows.{fits, holds_stays, minimal_is, least_is}
 use Rattle.minima.proofs.subtrees.fill_minima.Goals as goal
 
 pub returns : goal.returns
@@ -10,7 +10,6 @@ returns g c = let m = g.M.Measure.meaning in let laws = g.met.M.Measure.lawful.l
   tables = λ τ h. let after = holds_stays m laws c.args.n c.args.job.now c.args.cells.now c.fill_rows.new.cells τ c.fill_rows.ensures.stays h in record {
     holds = after;
     hangs = λ s p z l k. refl;
-    bests = bests_are m laws c.args.n c.args.job.now c.fill_rows.new.cells τ after c.fill_rows.ensures.rows;
     minimal = minimal_is m laws c.args.n c.args.job.now c.fill_rows.new.cells τ after c.fill_rows.ensures.rows;
   };
   least = λ τ h. let after = holds_stays m laws c.args.n c.args.job.now c.args.cells.now c.fill_rows.new.cells τ c.fill_rows.ensures.stays h in
