@@ -4,8 +4,6 @@ use Rattle.std.specs.Prelude.{◌≡◌, ℕ, ◌+◌, ◌*◌, ◌<◌, List, g
 use Rattle.cells.specs.Cells.{no_entry}
 use Rattle.cells.specs.declared.cell.Cell.{Cell}
 use Rattle.cells.specs.declared.cell.Entry.{Entry}
-use Rattle.tables.specs.declared.part.Part.{Part}
-use Rattle.tables.specs.declared.part.Part.TheVariants.{Own, Best, Hang, Waiting}
 
 -- the one cell that is read outside a list
 abbrev pub blank : {M V : Type 0} → Cell M V
@@ -89,10 +87,3 @@ pub record EntryWritten {M V : Type 0} (at : ℕ) (e : Entry V) (old new : List 
   pub there : entry_in new at ≡ e
   pub cell : get_or new at blank ≡ with_entry e (slice_index_or old at blank)
   pub others : (i : ℕ) → (i ≢ at) → slice_index_or new i blank ≡ slice_index_or old i blank
-
--- a part of cell at has its new value, and nothing else has changed
-abbrev pub Wrote : {M V : Type 0} → ℕ → Part V → List (Cell M V) → List (Cell M V) → Type 0
-Wrote at (Own v) old new = OwnWritten at v old new
-Wrote at (Best v) old new = BestWritten at v old new
-Wrote at (Hang v) old new = HangWritten at v old new
-Wrote at (Waiting e) old new = EntryWritten at e old new

@@ -1,7 +1,6 @@
 ghost use Rattle.std.specs.Prelude.{◌≡◌, ◌+◌, ◌*◌, ◌<◌, ◌≤◌, length, slice_index_or};
-ghost use Rattle.tables.specs.Tables.{blank, leg_in, ride_in, kind_in, own_in, best_in, hang_in, entry_in, OwnWritten, BestWritten, HangWritten, EntryWritten, Wrote};
+ghost use Rattle.tables.specs.Tables.{blank, leg_in, ride_in, kind_in, own_in, best_in, hang_in, entry_in, OwnWritten, BestWritten, HangWritten, EntryWritten};
 
-use crate::part::Part;
 use cells::cell::{Cell, Entry};
 
 // Where cell `b` of row `a` stands in a table of rows with n cells each.
@@ -77,48 +76,38 @@ pub fn stop_at<M, V: Copy>(
     cell_at(cells, i)
 }
 
-// Writes a part of a cell; nothing else changes. The four below go through it: where each assigns to its own field, the
-// check does not find by itself that nothing else changes.
-fn write<M, V: Copy>(cells: &mut [Cell<M, V>], at: usize, part: Part<V>)
-    requires { at < length cells.old }
-    ensures { Wrote at part cells.old cells.new }
-{
-    match part {
-        Part::Own(value) => cells[at].own = value,
-        Part::Best(value) => cells[at].best = value,
-        Part::Hang(value) => cells[at].hang = value,
-        Part::Waiting(entry) => cells[at].entry = entry,
-    }
-}
-
 // Writes a stop's own value into a cell; nothing else changes.
+#[tactic(auto, using(crate::proofs::Reading::there_set, crate::proofs::Reading::other_set, crate::proofs::Reading::same_there, crate::proofs::Reading::owns_only))]
 pub fn set_own<M, V: Copy>(cells: &mut [Cell<M, V>], at: usize, value: Option<V>)
     requires { at < length cells.old }
     ensures { OwnWritten at value cells.old cells.new }
 {
-    write(cells, at, Part::Own(value));
+    cells[at].own = value;
 }
 
 // Writes the least value of a subtree into a cell; nothing else changes.
+#[tactic(auto, using(crate::proofs::Reading::there_set, crate::proofs::Reading::other_set, crate::proofs::Reading::same_there, crate::proofs::Reading::stays_set, crate::proofs::Reading::hang_same))]
 pub fn set_best<M, V: Copy>(cells: &mut [Cell<M, V>], at: usize, value: Option<V>)
     requires { at < length cells.old }
     ensures { BestWritten at value cells.old cells.new }
 {
-    write(cells, at, Part::Best(value));
+    cells[at].best = value;
 }
 
 // Writes the least value of a link and a subtree into a cell; nothing else changes.
+#[tactic(auto, using(crate::proofs::Reading::there_set, crate::proofs::Reading::other_set, crate::proofs::Reading::same_there, crate::proofs::Reading::stays_set, crate::proofs::Reading::best_same))]
 pub fn set_hang<M, V: Copy>(cells: &mut [Cell<M, V>], at: usize, value: Option<V>)
     requires { at < length cells.old }
     ensures { HangWritten at value cells.old cells.new }
 {
-    write(cells, at, Part::Hang(value));
+    cells[at].hang = value;
 }
 
 // Writes a waiting subspace into a cell; nothing else changes.
+#[tactic(auto, using(crate::proofs::Reading::there_set, crate::proofs::Reading::other_set, crate::proofs::Reading::same_there), unfolding(crate::specs::Tables::entry_in))]
 pub fn set_entry<M, V: Copy>(cells: &mut [Cell<M, V>], at: usize, entry: Entry<V>)
     requires { at < length cells.old }
     ensures { EntryWritten at entry cells.old cells.new }
 {
-    write(cells, at, Part::Waiting(entry));
+    cells[at].entry = entry;
 }

@@ -1,4 +1,3 @@
 #![tactic(auto)]
 
 pub mod access;
-mod part;
