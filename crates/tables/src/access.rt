@@ -76,7 +76,8 @@ pub fn stop_at<M, V: Copy>(
     cell_at(cells, i)
 }
 
-// Writes a stop's own value into a cell; nothing else changes.
+// Writes a stop's own value into a cell; nothing else changes. There are four writers, since a contract names the field that
+// is written, and one for all would have to switch on it.
 #[tactic(auto, using(crate::proofs::Reading::there_set, crate::proofs::Reading::other_set, crate::proofs::Reading::same_there, crate::proofs::Reading::owns_only))]
 pub fn set_own<M, V: Copy>(cells: &mut [Cell<M, V>], at: usize, value: Option<V>)
     requires { at < length cells.old }
