@@ -19,13 +19,7 @@ use tables::access::{set_best, set_hang, stop_place};
 
 impl<'a, M: Measure> Board<'a, M, M::Value> {
     // A sum with what stop c adds to the subtree of stop s at place q, nothing where it does not hang on s.
-    fn with_hanging(
-        &self,
-        sum: Option<M::Value>,
-        s: usize,
-        q: usize,
-        c: usize,
-    ) -> Option<M::Value>
+    fn with_hanging(&self, sum: Option<M::Value>, s: usize, q: usize, c: usize) -> Option<M::Value>
         requires { (q < self.now.n) × (c < length (stops_of self.now.job.now)) }
         ensures { result ≡ both M.Measure.meaning.joined sum (if child_in (stops_of self.now.job.now) s c then hang_in self.now.cells.now self.now.n c q else Some M.Measure.meaning.nought) }
     {
