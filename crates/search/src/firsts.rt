@@ -31,7 +31,8 @@ fn fill_rest<M: Measure>(board: &Board<'_, M, M::Value>, places: &mut [u8; 12], 
     }
 }
 
-// These places, with another one for stop i.
+// These places, with another one for stop i. It is apart since the check knows the length of an array behind a parameter, and
+// not behind a field.
 fn with_place(from: &[u8; 12], i: usize, place: u8) -> [u8; 12]
     requires { i < 12 }
     ensures told { result ≡ slice_set from.now i place }
