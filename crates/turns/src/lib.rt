@@ -1,4 +1,5 @@
 #![tactic(auto)]
 
+pub mod order;
 pub mod starting;
 pub mod turning;

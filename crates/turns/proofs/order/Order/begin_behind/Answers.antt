@@ -1,4 +1,4 @@
-use Rattle.turns.proofs.starting.begin_behind.Goals as goal
+use Rattle.turns.proofs.order.Order.begin_behind.Goals as goal
 
 pub returns : goal.returns
 returns g c = record {
