@@ -6,9 +6,9 @@
 // All cases of a measure use the same cells, as the case before left them.
 #![tactic(auto)]
 
-ghost use Rattle.std.specs.Prelude.{◌≡◌, ◌+◌, ◌*◌, ◌<◌, ◌≤◌, true, length};
+ghost use Rattle.std.specs.Prelude.{◌≡◌, ◌<◌, ◌≤◌, IfSome, length};
 ghost use Rattle.jobs.specs.Jobs.{stops_of};
-ghost use Rattle.turns.specs.Standing.{behind_tables, Roomy};
+ghost use Rattle.turns.specs.Standing.{behind_tables, needed};
 ghost use Rattle.leaders.specs.Leaders.{Rows};
 
 use anyhow::anyhow;
@@ -25,8 +25,7 @@ use quarters::quarter::Quarter;
 use rides::table::fill;
 use std::{fmt, io};
 use tables::access::cell_at;
-use turns::starting::{begin, begin_again, behind_tables};
-use turns::turning::{give, look};
+use turns::order::Order;
 
 // How many cells are lent.
 const CELLS: usize = 912;
@@ -175,38 +174,35 @@ fn read_case(text: &str) -> anyhow::Result<Result<Case, Refusal>> {
     }))
 }
 
-// Whether there are cells enough for n places, the job and k plans.
-fn has_room<M, V>(cells: &[Cell<M, V>], n: usize, job: &Job, k: usize) -> bool
-    ensures { result ≡ true → Roomy cells.now n (length (stops_of job.now)) k }
+// What a case asks for over n places, none where that is more than can be asked.
+fn order_of(n: usize, job: &Job, k: usize) -> Option<Order<'_>>
+    ensures { IfSome result (λ o. (o.n ≡ n) × (o.job.now ≡ job.now) × (o.k ≡ k)) }
 {
-    if n > 64 || k < 1 || k > 256 {
-        return false;
+    if n <= 64 && (1..=256).contains(&k) {
+        Some(Order { n, job, k })
+    } else {
+        None
     }
-    let m = job.len();
-    behind_tables(n, m) + k * m <= cells.len()
 }
 
 // Prints the plan of entry w, `rows` plans being given before it.
 fn print_plan<M: Measure>(
     rt: &HostRuntime,
     cells: &[Cell<M, M::Value>],
-    n: usize,
-    job: &Job,
-    k: usize,
+    order: &Order<'_>,
     rows: usize,
     w: usize,
 ) -> io::Result<()>
-    requires { Roomy cells.now n (length (stops_of job.now)) k × (rows < k) × (w < k) }
+    requires { let o = order.now in (needed o.n (length (stops_of o.job.now)) o.k ≤ length cells.now) × (rows < o.k) × (w < o.k) }
 {
-    let m = job.len();
-    let plan = cell_at(cells, behind_tables(n, m) + w).entry;
+    let plan = cell_at(cells, order.base() + w).entry;
     let Some(score) = plan.score else {
         return println!(rt; "no score");
     };
     let line = Line {
         number: rows + 1,
         score: Score(M::show(score)),
-        places: &plan.places[0..m],
+        places: &plan.places[0..order.job.len()],
     };
     println!(rt; "{line}")
 }
@@ -221,21 +217,19 @@ fn print_end(rt: &HostRuntime, given: usize, next: Option<usize>) -> io::Result<
 fn give_plans<M: Measure>(
     rt: &HostRuntime,
     cells: &mut [Cell<M, M::Value>],
-    n: usize,
-    job: &Job,
-    k: usize,
+    order: &Order<'_>,
     most: usize,
 ) -> io::Result<()>
-    requires { Roomy cells.old n (length (stops_of job.now)) k × (most ≤ k) × Rows cells.old (behind_tables n (length (stops_of job.now))) n (length (stops_of job.now)) k 0 }
+    requires { let o = order.now in let m = length (stops_of o.job.now) in (needed o.n m o.k ≤ length cells.old) × (most ≤ o.k) × Rows cells.old (behind_tables o.n m) o.n m o.k 0 }
 {
     for rows in 0..most {
-        let Some(w) = look::<M>(cells, n, job, k) else {
+        let Some(w) = order.look::<M>(cells) else {
             return print_end(rt, rows, None);
         };
-        print_plan::<M>(rt, cells, n, job, k, rows, w)?;
-        give::<M>(cells, n, job, k, rows, w);
+        print_plan::<M>(rt, cells, order, rows, w)?;
+        order.give::<M>(cells, rows, w);
     }
-    print_end(rt, most, look::<M>(cells, n, job, k))
+    print_end(rt, most, order.look::<M>(cells))
 }
 
 // Gives the plans of a job over a street, and then the first of them once more.
@@ -249,13 +243,14 @@ fn give_twice<M: Measure>(
     let Ok(n) = fill::<M, Quarter>(cells, street) else {
         return println!(rt; "{}", Refusal::NoRoom);
     };
-    if !has_room(cells, n, job, k) {
-        return println!(rt; "{}", Refusal::NoRoom);
-    }
-    begin::<M>(cells, n, job, k);
-    give_plans::<M>(rt, cells, n, job, k, k)?;
-    begin_again::<M>(cells, n, job, k);
-    give_plans::<M>(rt, cells, n, job, k, 1)
+    let order = match order_of(n, job, k) {
+        Some(order) if order.room() <= cells.len() => order,
+        _ => return println!(rt; "{}", Refusal::NoRoom),
+    };
+    order.begin::<M>(cells);
+    give_plans::<M>(rt, cells, &order, k)?;
+    order.begin_again::<M>(cells);
+    give_plans::<M>(rt, cells, &order, 1)
 }
 
 // Runs a case over lent cells, or prints why it has no plans.

@@ -12,7 +12,11 @@ use measures::Measure;
 impl<'a> Order<'a> {
     // Looks among the entries from cell `base` on, behind the tables. It is apart, as `give_behind` is, so that a wrong base
     // is refused at its call.
-    fn look_behind<'c, M: Measure>(&self, cells: &'c [Cell<M, M::Value>], base: usize) -> Option<usize>
+    fn look_behind<'c, M: Measure>(
+        &self,
+        cells: &'c [Cell<M, M::Value>],
+        base: usize,
+    ) -> Option<usize>
     where
         M: 'c,
         M::Value: 'c,
@@ -35,7 +39,13 @@ impl<'a> Order<'a> {
     }
 
     // Gives the plan of entry w among those from cell `base` on, behind the tables.
-    fn give_behind<M: Measure>(&self, cells: &mut [Cell<M, M::Value>], base: usize, rows: usize, w: usize)
+    fn give_behind<M: Measure>(
+        &self,
+        cells: &mut [Cell<M, M::Value>],
+        base: usize,
+        rows: usize,
+        w: usize,
+    )
         requires { let o = self.now in let start = behind_tables o.n (length (stops_of o.job.now)) in Givable cells.old o.n (stops_of o.job.now) start o.k rows w × (base ≡ start) }
         ensures { let o = self.now in Gave M.Measure.meaning (stops_of o.job.now) o.n o.k rows w cells.old cells.new }
     {

@@ -5,4 +5,4 @@ use Rattle.leaders.specs.Leaders.{Rows}
 use Rattle.plan_cases.proofs.give_plans.Given as goal
 
 abbrev pub invariant-loop-rows : goal.invariant-loop-rows
-invariant-loop-rows g l = Rows l.cells (behind_tables l.n (length (stops_of l.job))) l.n (length (stops_of l.job)) l.k l.rows
+invariant-loop-rows g l = let o = l.order in let m = length (stops_of o.job.now) in Rows l.cells (behind_tables o.n m) o.n m o.k l.rows

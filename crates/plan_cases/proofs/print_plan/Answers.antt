@@ -5,5 +5,4 @@ use Rattle.plan_cases.proofs.Rooms.{head_inside}
 use Rattle.plan_cases.proofs.print_plan.Goals as goal
 
 pub cell_at-requires : goal.cell_at-requires
-cell_at-requires g c = head_inside c.args.cells.now c.args.n (length (stops_of c.args.job.now)) c.len-m.result c.args.k c.args.w c.behind_tables.result
-    (some_stop c.args.job.now) c.len-m.ensures.told c.behind_tables.ensures.0 c.requires.0 c.requires.2
+cell_at-requires g c = let o = c.args.order.now in head_inside (length c.args.cells.now) o.n (length (stops_of o.job.now)) o.k c.args.w c.base.result (some_stop o.job.now) c.base.ensures.0 c.requires.0 c.requires.2
