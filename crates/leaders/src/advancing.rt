@@ -4,27 +4,27 @@ ghost use Rattle.leaders.specs.Leaders.{Advanced, Givable};
 
 use crate::rows::promote;
 use cells::cell::Cell;
-use jobs::job::Job;
 use measures::Measure;
-use waiting::queue::{Entries, split_off};
+use waiting::queue::{Entries, Waiting};
 
 // Splits what is left with the plan of head w, for m stops; the two rows that change get their leaders again. It is apart
 // from `advance` so that a wrong number of stops is refused at its call.
 fn split_and_lead<M: Measure>(
     cells: &mut [Cell<M, M::Value>],
-    n: usize,
-    job: &Job,
+    waiting: &Waiting<'_>,
     m: usize,
-    base: usize,
-    k: usize,
     rows: usize,
     w: usize,
 )
-    requires { (m ≡ length (stops_of job.now)) × Givable cells.old n (stops_of job.now) base k rows w }
-    ensures { Advanced M.Measure.meaning (stops_of job.now) n base k rows w cells.old cells.new }
+    requires { let o = waiting.now in (m ≡ length (stops_of o.job.now)) × Givable cells.old o.n (stops_of o.job.now) o.base o.k rows w }
+    ensures { let o = waiting.now in Advanced M.Measure.meaning (stops_of o.job.now) o.n o.base o.k rows w cells.old cells.new }
 {
-    split_off::<M>(cells, n, job, base, k, rows, w);
-    let entries = Entries { base, m, k };
+    waiting.split_off::<M>(cells, rows, w);
+    let entries = Entries {
+        base: waiting.base,
+        m,
+        k: waiting.k,
+    };
     promote::<M>(cells, &entries, w);
     promote::<M>(cells, &entries, rows);
 }
@@ -32,16 +32,13 @@ fn split_and_lead<M: Measure>(
 // The plan of head w is given: the other plans that waited with it wait on, and every row in use is led by its head.
 pub fn advance<M: Measure>(
     cells: &mut [Cell<M, M::Value>],
-    n: usize,
-    job: &Job,
-    base: usize,
-    k: usize,
+    waiting: &Waiting<'_>,
     rows: usize,
     w: usize,
 )
-    requires { Givable cells.old n (stops_of job.now) base k rows w }
-    ensures { Advanced M.Measure.meaning (stops_of job.now) n base k rows w cells.old cells.new }
+    requires { let o = waiting.now in Givable cells.old o.n (stops_of o.job.now) o.base o.k rows w }
+    ensures { let o = waiting.now in Advanced M.Measure.meaning (stops_of o.job.now) o.n o.base o.k rows w cells.old cells.new }
 {
-    let m = job.len();
-    split_and_lead::<M>(cells, n, job, m, base, k, rows, w);
+    let m = waiting.job.len();
+    split_and_lead::<M>(cells, waiting, m, rows, w);
 }

@@ -15,7 +15,7 @@ use measures::optional::join_options;
 use minima::links::{link_at, parent_at};
 use minima::subtrees::fill_minima;
 use tables::access::{cell_at, stop_at};
-use waiting::opening::let_all_wait;
+use waiting::queue::Waiting;
 
 // Three places and three stops: so 27 placements, and one plan more is wanted.
 const PLACES: usize = 3;
@@ -126,6 +126,12 @@ fn rank<M: Measure>(cells: &[Cell<M, M::Value>], job: &Job, plan: &Entry<M::Valu
 fn enumerate<M: Measure>(cells: &mut [Cell<M, M::Value>], job: &Job) -> Result<(), Wrong>
     requires { (length cells.old ≡ CELLS) × (length (stops_of job.now) ≡ STOPS) × Rows cells.old BASE PLACES (length (stops_of job.now)) WANTED 0 }
 {
+    let waiting = Waiting {
+        n: PLACES,
+        job,
+        base: BASE,
+        k: WANTED,
+    };
     for given in 0..WANTED {
         let Some(w) = find_head::<M>(cells, job, BASE, WANTED) else {
             let all = given == plans::<M>(cells, job);
@@ -135,7 +141,7 @@ fn enumerate<M: Measure>(cells: &mut [Cell<M, M::Value>], job: &Job) -> Result<(
         if rank::<M>(cells, job, &plan) != Some(given) {
             return Err(Wrong::Turn);
         }
-        advance::<M>(cells, PLACES, job, BASE, WANTED, given, w);
+        advance::<M>(cells, &waiting, given, w);
     }
     Err(Wrong::Count)
 }
@@ -147,7 +153,13 @@ fn run<M: Measure>(cells: &mut [Cell<M, M::Value>], job: &Job, seed: u64) -> Res
     }
     fill::<M>(cells, seed);
     fill_minima::<M>(cells, PLACES, job);
-    let_all_wait::<M>(cells, PLACES, job, BASE, WANTED);
+    let waiting = Waiting {
+        n: PLACES,
+        job,
+        base: BASE,
+        k: WANTED,
+    };
+    waiting.let_all_wait::<M>(cells);
     enumerate::<M>(cells, job)
 }
 

@@ -11,7 +11,7 @@ use fitting::owns::fill_own;
 use jobs::job::Job;
 use measures::Measure;
 use minima::subtrees::fill_minima;
-use waiting::opening::let_all_wait;
+use waiting::queue::Waiting;
 
 // Fills in the job's own values and subtree minima over the street that the cells hold.
 fn fill_tables<M: Measure>(cells: &mut [Cell<M, M::Value>], n: usize, job: &Job)
@@ -29,7 +29,13 @@ impl<'a> Order<'a> {
         requires { let o = self.now in let m = length (stops_of o.job.now) in (needed o.n m o.k ≤ length cells.old) × (base ≡ behind_tables o.n m) × (base ≤ 4864) }
         ensures { let o = self.now in Waits M.Measure.meaning (stops_of o.job.now) o.n o.k cells.old cells.new }
     {
-        let_all_wait::<M>(cells, self.n, self.job, base, self.k);
+        let waiting = Waiting {
+            n: self.n,
+            job: self.job,
+            base,
+            k: self.k,
+        };
+        waiting.let_all_wait::<M>(cells);
     }
 
     // Lets all plans wait again, over the tables that the cells hold: nothing is given yet.

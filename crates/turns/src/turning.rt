@@ -8,6 +8,7 @@ use cells::cell::Cell;
 use leaders::advancing::advance;
 use leaders::rows::find_head;
 use measures::Measure;
+use waiting::queue::Waiting;
 
 impl<'a> Order<'a> {
     // Looks among the entries from cell `base` on, behind the tables. It is apart, as `give_behind` is, so that a wrong base
@@ -49,7 +50,13 @@ impl<'a> Order<'a> {
         requires { let o = self.now in let start = behind_tables o.n (length (stops_of o.job.now)) in Givable cells.old o.n (stops_of o.job.now) start o.k rows w × (base ≡ start) }
         ensures { let o = self.now in Gave M.Measure.meaning (stops_of o.job.now) o.n o.k rows w cells.old cells.new }
     {
-        advance::<M>(cells, self.n, self.job, base, self.k, rows, w);
+        let waiting = Waiting {
+            n: self.n,
+            job: self.job,
+            base,
+            k: self.k,
+        };
+        advance::<M>(cells, &waiting, rows, w);
     }
 
     // The plan of entry w is given, `rows` plans being given before it: the other plans that waited with it wait on.

@@ -4,13 +4,12 @@ ghost use Rattle.measures.specs.Scales.{optional};
 ghost use Rattle.trees.specs.Tasks.{Task};
 ghost use Rattle.trees.specs.Rounds.{Partition};
 ghost use Rattle.tables.specs.Tables.{entry_in, Kept};
-ghost use Rattle.minima.specs.Tables.{Ready, Tables};
+ghost use Rattle.minima.specs.Tables.{Tables};
 ghost use Rattle.waiting.specs.Queues.{waiting_in, NoSpace, Queue, FreeHeads};
 
-use crate::queue::room_for;
+use crate::queue::Waiting;
 use bounds::prefixes::Prefix;
 use cells::cell::{Cell, Entry};
-use jobs::job::Job;
 use measures::Measure;
 use minima::board::Board;
 use search::firsts::first_plan;
@@ -28,32 +27,32 @@ fn clear<M, V: Copy>(cells: &mut [Cell<M, V>], from: usize, to: usize, m: usize)
     }
 }
 
-// Lets all plans wait in one subspace, the head of row 0; nothing is given yet.
-pub fn let_all_wait<M: Measure>(
-    cells: &mut [Cell<M, M::Value>],
-    n: usize,
-    job: &Job,
-    base: usize,
-    k: usize,
-)
-    requires { Ready cells.old n (stops_of job.now) × (n * n + length (stops_of job.now) * n ≤ base) × (base ≤ 4864) × (1 ≤ k) × (k ≤ 256) × (base + k * length (stops_of job.now) ≤ length cells.old) }
-    ensures kept { Kept base cells.old cells.new }
-    ensures tables { (τ : Task (Option M.Value)) (H : ℕ → ℕ → Option M.Value) → Tables M.Measure.meaning cells.old n (stops_of job.now) τ H → Tables M.Measure.meaning cells.new n (stops_of job.now) τ H }
-    ensures queue { Queue cells.new base n (length (stops_of job.now)) k 0 }
-    ensures heads { FreeHeads cells.new base (length (stops_of job.now)) k 0 }
-    ensures stands { (τ : Task (Option M.Value)) (H : ℕ → ℕ → Option M.Value) → Tables M.Measure.meaning cells.old n (stops_of job.now) τ H →
-        Partition (optional M.Measure.meaning) τ H [] (k * length (stops_of job.now)) (waiting_in cells.new base) }
-{
-    let m = job.len();
-    let to = base + k * m;
-    clear(cells, base, to, m);
-    let places = [0; 12];
-    let board = Board { cells, n, job };
-    let prefix = Prefix {
-        board: &board,
-        places: &places,
-        i: 0,
-    };
-    let first = first_plan::<M>(&prefix, PlaceSet::empty());
-    set_entry(cells, base, first);
+impl<'a> Waiting<'a> {
+    // Lets all plans wait in one subspace, the head of row 0; nothing is given yet.
+    pub fn let_all_wait<M: Measure>(&self, cells: &mut [Cell<M, M::Value>])
+        requires { let o = self.now in (1 ≤ o.k) × (o.base + o.k * length (stops_of o.job.now) ≤ length cells.old) }
+        ensures kept { Kept self.now.base cells.old cells.new }
+        ensures tables { let o = self.now in (τ : Task (Option M.Value)) (H : ℕ → ℕ → Option M.Value) → Tables M.Measure.meaning cells.old o.n (stops_of o.job.now) τ H → Tables M.Measure.meaning cells.new o.n (stops_of o.job.now) τ H }
+        ensures queue { let o = self.now in Queue cells.new o.base o.n (length (stops_of o.job.now)) o.k 0 }
+        ensures heads { let o = self.now in FreeHeads cells.new o.base (length (stops_of o.job.now)) o.k 0 }
+        ensures stands { let o = self.now in (τ : Task (Option M.Value)) (H : ℕ → ℕ → Option M.Value) → Tables M.Measure.meaning cells.old o.n (stops_of o.job.now) τ H →
+            Partition (optional M.Measure.meaning) τ H [] (o.k * length (stops_of o.job.now)) (waiting_in cells.new o.base) }
+    {
+        let m = self.job.len();
+        let to = self.base + self.k * m;
+        clear(cells, self.base, to, m);
+        let places = [0; 12];
+        let board = Board {
+            cells,
+            n: self.n,
+            job: self.job,
+        };
+        let prefix = Prefix {
+            board: &board,
+            places: &places,
+            i: 0,
+        };
+        let first = first_plan::<M>(&prefix, PlaceSet::empty());
+        set_entry(cells, self.base, first);
+    }
 }

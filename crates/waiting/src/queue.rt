@@ -40,43 +40,55 @@ pub fn room_for(k: usize, m: usize) -> usize
     k * m
 }
 
-// The plan of entry w is given, for m stops: the part of its subspace at its own depth takes its place, and the others go
-// into row `rows`. It is apart from `split_off` so that a wrong number of stops is refused at its call.
-fn split_head<M: Measure>(
-    cells: &mut [Cell<M, M::Value>],
-    n: usize,
-    job: &Job,
-    m: usize,
-    base: usize,
-    k: usize,
-    rows: usize,
-    w: usize,
-)
-    requires { (m ≡ length (stops_of job.now)) × Splittable cells.old n (stops_of job.now) base k rows w }
-    ensures { SplitOff M.Measure.meaning (stops_of job.now) n base k rows w cells.old cells.new }
-{
-    let old = cell_at(cells, base + w).entry;
-    let board = Board { cells, n, job };
-    let here = part_here::<M>(&board, &old);
-    set_entry(cells, base + w, here);
-    let entries = Entries { base, m, k };
-    let start = entries.behind(rows);
-    split_rest::<M>(cells, n, job, start, &old.places, old.depth);
+// Where the plans of a job over n places wait, of which k are wanted: in the cells from `base` on, behind the tables.
+#[derive(Clone, Copy)]
+pub struct Waiting<'a> {
+    pub n: usize,
+    pub job: &'a Job,
+    pub base: usize,
+    pub k: usize,
+    pub ghost few: { n ≤ 64 },
+    pub ghost behind: { n * n + length (stops_of job.now) * n ≤ base },
+    pub ghost low: { base ≤ 4864 },
+    pub ghost most: { k ≤ 256 },
 }
 
-// The plan of entry w is given: what is left of its subspace is split, and waits on.
-pub fn split_off<M: Measure>(
-    cells: &mut [Cell<M, M::Value>],
-    n: usize,
-    job: &Job,
-    base: usize,
-    k: usize,
-    rows: usize,
-    w: usize,
-)
-    requires { Splittable cells.old n (stops_of job.now) base k rows w }
-    ensures { SplitOff M.Measure.meaning (stops_of job.now) n base k rows w cells.old cells.new }
-{
-    let m = job.len();
-    split_head::<M>(cells, n, job, m, base, k, rows, w);
+impl<'a> Waiting<'a> {
+    // The plan of entry w is given, for m stops: the part of its subspace at its own depth takes its place, and the others
+    // go into row `rows`. It is apart from `split_off` so that a wrong number of stops is refused at its call.
+    fn split_head<M: Measure>(
+        &self,
+        cells: &mut [Cell<M, M::Value>],
+        m: usize,
+        rows: usize,
+        w: usize,
+    )
+        requires { let o = self.now in (m ≡ length (stops_of o.job.now)) × Splittable cells.old o.n (stops_of o.job.now) o.base o.k rows w }
+        ensures { let o = self.now in SplitOff M.Measure.meaning (stops_of o.job.now) o.n o.base o.k rows w cells.old cells.new }
+    {
+        let old = cell_at(cells, self.base + w).entry;
+        let board = Board {
+            cells,
+            n: self.n,
+            job: self.job,
+        };
+        let here = part_here::<M>(&board, &old);
+        set_entry(cells, self.base + w, here);
+        let entries = Entries {
+            base: self.base,
+            m,
+            k: self.k,
+        };
+        let start = entries.behind(rows);
+        split_rest::<M>(cells, self.n, self.job, start, &old.places, old.depth);
+    }
+
+    // The plan of entry w is given: what is left of its subspace is split, and waits on.
+    pub fn split_off<M: Measure>(&self, cells: &mut [Cell<M, M::Value>], rows: usize, w: usize)
+        requires { let o = self.now in Splittable cells.old o.n (stops_of o.job.now) o.base o.k rows w }
+        ensures { let o = self.now in SplitOff M.Measure.meaning (stops_of o.job.now) o.n o.base o.k rows w cells.old cells.new }
+    {
+        let m = self.job.len();
+        self.split_head::<M>(cells, m, rows, w);
+    }
 }
