@@ -13,7 +13,7 @@ use faults::TextFault;
 use job_texts::text::read_job;
 use jobs::job::Job;
 use jobs::stops::{Link, Stop, Tie};
-use std::alloc::Global;
+use std::alloc::{AllocError, Global};
 use std::fmt::{Display, Formatter, Write};
 use std::{fmt, io, iter};
 use streets::legs::{Leg, LegRecord};
@@ -31,42 +31,67 @@ const OLD_LEG: LegRecord = LegRecord {
     },
 };
 
-// What follows `\*`: N bytes c, and then the text as it stands.
-fn repeat(out: &mut Vec<u8>, text: &str) -> anyhow::Result<()> {
-    let (count, rest) = text.split_once(';').context("no end of a count")?;
-    let mut rest = rest.bytes();
-    let byte = rest.next().context("no byte after a count")?;
-    out.extend(iter::repeat_n(byte, count.parse::<usize>()?))?;
-    out.extend(rest)?;
-    Ok(())
+// Where in a text of a case the reading stands. A state and no split at backslashes, since a backslash may also stand for
+// itself, or be the byte that is repeated.
+#[derive(Clone, Copy)]
+enum State {
+    Plain,
+    // behind a backslash
+    Escape,
+    // behind `\*`, with the count so far
+    Count(u32),
+    // behind the count, before its byte
+    Fill(u32),
 }
 
-// What follows a `\`, up to the next.
-fn unescape(out: &mut Vec<u8>, text: &str) -> anyhow::Result<()> {
-    let mut rest = text.chars();
-    match rest.next() {
-        Some('t') => out.push(9)?,
-        Some('n') => out.push(10)?,
-        Some('h') => out.push(200)?,
-        Some('*') => return repeat(out, rest.as_str()),
-        _ => {
-            out.extend_from_slice(text.as_bytes())?;
-            return Ok(());
-        }
+// The byte that a letter after a backslash stands for, or the begin of a count.
+fn escaped(out: &mut Vec<u8>, b: u8) -> Result<State, AllocError> {
+    match b {
+        b't' => out.push(9)?,
+        b'n' => out.push(10)?,
+        b'h' => out.push(200)?,
+        b'*' => return Ok(State::Count(0)),
+        _ => out.push(b)?,
     }
-    out.extend_from_slice(rest.as_str().as_bytes())?;
-    Ok(())
+    Ok(State::Plain)
+}
+
+// The byte that stands N times.
+fn filled(out: &mut Vec<u8>, n: u32, b: u8) -> Result<State, AllocError> {
+    out.extend(iter::repeat_n(b, n as usize))?;
+    Ok(State::Plain)
+}
+
+// One digit more of a count; any other byte ends it.
+fn counted(n: u32, b: u8) -> State {
+    if !b.is_ascii_digit() {
+        return State::Fill(n);
+    }
+    State::Count(n.wrapping_mul(10).wrapping_add(u32::from(b - b'0')))
+}
+
+// One byte of a case's text.
+fn step(out: &mut Vec<u8>, state: State, b: u8) -> Result<State, AllocError> {
+    match state {
+        State::Plain => {
+            if b == b'\\' {
+                return Ok(State::Escape);
+            }
+            out.push(b)?;
+            Ok(State::Plain)
+        }
+        State::Escape => escaped(out, b),
+        State::Count(n) => Ok(counted(n, b)),
+        State::Fill(n) => filled(out, n, b),
+    }
 }
 
 // The bytes that a text of a case stands for.
-fn unescaped(heap: Global, text: &str) -> anyhow::Result<Vec<u8>> {
+fn unescaped(heap: Global, text: &str) -> Result<Vec<u8>, AllocError> {
     let mut out = Vec::new(heap);
-    let mut pieces = text.split('\\');
-    if let Some(plain) = pieces.next() {
-        out.extend_from_slice(plain.as_bytes())?;
-    }
-    for piece in pieces {
-        unescape(&mut out, piece)?;
+    let mut state = State::Plain;
+    for b in text.as_bytes() {
+        state = step(&mut out, state, *b)?;
     }
     Ok(out)
 }
