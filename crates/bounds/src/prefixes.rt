@@ -47,7 +47,7 @@ impl<'a, M: Measure> Prefix<'a, M, M::Value> {
         ensures value { result ≡ places_of self.now.places.now t }
         ensures below { result < self.now.board.now.n }
     {
-        self.places[t] as usize
+        usize::from(self.places[t])
     }
 
     // What a stop below stop i adds at its place: its own value and its link's.

@@ -9,6 +9,7 @@ use std::marker::PhantomData;
 #[derive(Clone, Copy)]
 pub struct Entry<V> {
     pub score: Option<V>,
+    // twelve, whatever the job: a lent cell has a fixed size
     pub places: [u8; 12],
     pub depth: usize,
     pub excluded: PlaceSet,

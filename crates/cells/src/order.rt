@@ -7,7 +7,8 @@ use crate::cell::{Cell, Entry};
 use least::TotalOrder;
 use measures::Measure;
 
-// Whether a value is at or before another, no value being after all of them.
+// Whether a value is at or before another, no value being after all of them. No `Ord`: the order is that of a measure, which
+// many measures may give to one type.
 pub fn at_most<M: Measure>(a: Option<M::Value>, b: Option<M::Value>) -> bool
     ensures { result ≡ at_most M.Measure.meaning.before a b }
 {

@@ -17,7 +17,7 @@ pub struct Choices {
 #[derive(Clone, Copy, Debug, PartialEq, Eq)]
 pub enum Refusal {
     // the job has no such stop
-    NoSuchStop,
+    NoSuchStop = 52,
 }
 
 impl Refusal {
@@ -25,8 +25,6 @@ impl Refusal {
     pub fn number(self) -> u8
         ensures { result ≡ number_of self }
     {
-        match self {
-            Refusal::NoSuchStop => 52,
-        }
+        self as u8
     }
 }

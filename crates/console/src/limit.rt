@@ -8,7 +8,7 @@ pub const MOST_BYTES: usize = 4096;
 #[derive(Clone, Copy, Debug, PartialEq, Eq)]
 pub enum LimitRefusal {
     // more than 4,096 bytes
-    TooLong,
+    TooLong = 48,
 }
 
 impl LimitRefusal {
@@ -16,9 +16,7 @@ impl LimitRefusal {
     pub fn number(self) -> u8
         ensures { result ≡ number_of self }
     {
-        match self {
-            LimitRefusal::TooLong => 48,
-        }
+        self as u8
     }
 }
 

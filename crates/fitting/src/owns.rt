@@ -20,10 +20,7 @@ use tables::access::{set_own, stop_place};
 fn kind_fits(job: &Job, s: usize, kind: u8) -> bool
     ensures { result ≡ fits (kind_of (slice_get (stops_of job.now) s)) kind }
 {
-    match job.stop(s) {
-        Some(stop) => stop.takes(kind),
-        None => true,
-    }
+    job.stop(s).is_none_or(|stop| stop.takes(kind))
 }
 
 // The own value of a stop at a place: zero where the place fits, none elsewhere.

@@ -8,7 +8,7 @@ use measures::Measure;
 use waiting::queue::{Entries, Waiting};
 
 // Splits what is left with the plan of head w, for m stops; the two rows that change get their leaders again. It is apart
-// from `advance` so that a wrong number of stops is refused at its call.
+// from `advance`: as one function it was tried, and then its goals are only proved by answers written by hand.
 fn split_and_lead<M: Measure>(
     cells: &mut [Cell<M, M::Value>],
     waiting: &Waiting<'_>,

@@ -10,7 +10,7 @@ use Rattle.jobs.specs.declared.stops.Link.{Link}
 use Rattle.jobs.specs.declared.stops.Link.TheVariants.{Direct, Ride}
 use Rattle.measures.specs.Scales.{optional, total}
 use Rattle.trees.specs.Tasks.{Task, Rooted}
-use Rattle.trees.specs.Minima.{IsLeast, hanging, Minimal}
+use Rattle.trees.specs.Minima.{IsLeast, Minimal}
 use Rattle.cells.specs.declared.cell.Cell.{Cell}
 use Rattle.tables.specs.Tables.{leg_in, ride_in, own_in, best_in, hang_in}
 

@@ -13,19 +13,16 @@ use tables::access::pair_at;
 pub fn tie_at(job: &Job, s: usize) -> Option<Tie>
     ensures { result ≡ tie_in (stops_of job.now) s }
 {
-    match job.stop(s) {
-        Some(stop) => stop.tie,
-        None => None,
-    }
+    job.stop(s)?.tie
 }
 
-// A stop's parent; the root counts as its own.
+// A stop's parent; the root counts as its own. By cases: `map_or` was tried, and `below` stays open.
 pub fn parent_at(job: &Job, s: usize) -> usize
     ensures told { result ≡ parent_in (stops_of job.now) s }
     ensures below { s < length (stops_of job.now) → result ≤ s }
 {
     match tie_at(job, s) {
-        Some(tie) => tie.parent as usize,
+        Some(tie) => usize::from(tie.parent),
         None => 0,
     }
 }
@@ -67,8 +64,5 @@ pub fn link_at<M, V: Copy>(
     requires { (p < n) × (q < n) × (n ≤ 64) × (n * n ≤ length cells.now) }
     ensures { result ≡ link_in cells.now n (stops_of job.now) s p q }
 {
-    match tie_at(job, s) {
-        Some(tie) => link_value(cells, n, tie.link, p, q),
-        None => None,
-    }
+    link_value(cells, n, tie_at(job, s)?.link, p, q)
 }

@@ -15,6 +15,7 @@ use measures::optional::join_options;
 use minima::links::{link_at, parent_at};
 use minima::subtrees::fill_minima;
 use tables::access::{cell_at, stop_at};
+use waiting::picking::find_next;
 use waiting::queue::Waiting;
 
 // Three places and three stops: so 27 placements, and one plan more is wanted.
@@ -122,7 +123,8 @@ fn rank<M: Measure>(cells: &[Cell<M, M::Value>], job: &Job, plan: &Entry<M::Valu
     Some(before)
 }
 
-// Gives the plans in turn: each has just as many plans before it as are given, and at the end all are given.
+// Gives the plans in turn: each has just as many plans before it as are given, and at the end all are given. The pick
+// among all entries finds the plan that the pick among the heads finds.
 fn enumerate<M: Measure>(cells: &mut [Cell<M, M::Value>], job: &Job) -> Result<(), Wrong>
     requires { (length cells.old ≡ CELLS) × (length (stops_of job.now) ≡ STOPS) × Rows cells.old BASE PLACES (length (stops_of job.now)) WANTED 0 }
 {
@@ -139,6 +141,12 @@ fn enumerate<M: Measure>(cells: &mut [Cell<M, M::Value>], job: &Job) -> Result<(
         };
         let plan = cell_at(cells, BASE + w).entry;
         if rank::<M>(cells, job, &plan) != Some(given) {
+            return Err(Wrong::Turn);
+        }
+        let Some(v) = find_next::<M>(cells, job, BASE, WANTED) else {
+            return Err(Wrong::Turn);
+        };
+        if cell_at(cells, BASE + v).entry.places != plan.places {
             return Err(Wrong::Turn);
         }
         advance::<M>(cells, &waiting, given, w);

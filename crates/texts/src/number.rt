@@ -7,6 +7,7 @@ use faults::{FieldFault, FieldWrong, Spot};
 pub const LAST_KIND: u64 = 255;
 
 // The number in the field at a spot: one to five digits, at most `bound`. The running value is carried in 64 bits.
+// Digit by digit: bytes have no `parse`, and that of a text takes a sign.
 pub fn number(part: &[u8], bound: u64, at: Spot) -> Result<u64, FieldFault>
     ensures value { result ≡ numeral bound at part.now }
     ensures high { IfOk result (λ v. v ≤ bound) }

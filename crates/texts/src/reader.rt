@@ -4,7 +4,8 @@ use faults::Text;
 
 mod steps;
 
-// A field as it is handed out: that part of the text, never a copy, with where it starts.
+// A field as it is handed out: that part of the text, never a copy, with where it starts. Three cases with the same two
+// parts, since every reader is to say by the case which sort of field it took.
 #[derive(Clone, Copy, Debug, PartialEq, Eq)]
 pub enum Token<'a> {
     Word { part: &'a [u8], start: usize },
@@ -19,7 +20,7 @@ pub struct Reader<'a> {
     which: Text,
     // where the next line starts
     next: usize,
-    // where the next field of the line at hand starts
+    // where the next field of the line at hand starts; places and no slices, since a field says where it starts
     pos: usize,
     // where the line at hand ends
     end: usize,

@@ -23,8 +23,8 @@ fn fill_tables<M: Measure>(cells: &mut [Cell<M, M::Value>], n: usize, job: &Job)
 }
 
 impl<'a> Order<'a> {
-    // Lets all plans wait in the cells from `base` on, behind the tables. It is apart, as `begin_behind` is, so that a wrong
-    // base is refused at its call.
+    // Lets all plans wait in the cells from `base` on, behind the tables. It is apart, as `begin_behind` is: in one
+    // function with the base worked out it was tried, and its goals are then only proved by answers written by hand.
     fn wait_behind<M: Measure>(&self, cells: &mut [Cell<M, M::Value>], base: usize)
         requires { let o = self.now in let m = length (stops_of o.job.now) in (needed o.n m o.k ≤ length cells.old) × (base ≡ behind_tables o.n m) × (base ≤ 4864) }
         ensures { let o = self.now in Waits M.Measure.meaning (stops_of o.job.now) o.n o.k cells.old cells.new }

@@ -11,8 +11,8 @@ use measures::Measure;
 use waiting::queue::Waiting;
 
 impl<'a> Order<'a> {
-    // Looks among the entries from cell `base` on, behind the tables. It is apart, as `give_behind` is, so that a wrong base
-    // is refused at its call.
+    // Looks among the entries from cell `base` on, behind the tables. It is apart, as `give_behind` is, so that a wrong
+    // base is refused at its call.
     fn look_behind<'c, M: Measure>(
         &self,
         cells: &'c [Cell<M, M::Value>],

@@ -36,11 +36,7 @@ pub fn with_plan<M, V: Copy>(cells: &[Cell<M, V>], base: usize, w: usize) -> Opt
     requires { (base ≤ 4864) × (w ≤ 3072) × (base + w < length cells.now) }
     ensures { MatchOption result ((entry_in cells.now (base + w)).score ≡ None) (λ v. (v ≡ w) × ((entry_in cells.now (base + w)).score ≢ None)) }
 {
-    let entry = cell_at(cells, base + w).entry;
-    match entry.score {
-        None => None,
-        Some(_) => Some(w),
-    }
+    cell_at(cells, base + w).entry.score.map(|_| w)
 }
 
 // Where the first plan waits that is not given, or none where no plan is left.

@@ -13,7 +13,7 @@ pub const LINE_ROOM: usize = 96;
 #[derive(Clone, Copy, Debug, PartialEq, Eq)]
 pub enum LineRefusal {
     // fewer than 96 bytes
-    NoRoom,
+    NoRoom = 50,
 }
 
 impl LineRefusal {
@@ -21,9 +21,7 @@ impl LineRefusal {
     pub fn number(self) -> u8
         ensures { result ≡ number_of self }
     {
-        match self {
-            LineRefusal::NoRoom => 50,
-        }
+        self as u8
     }
 }
 

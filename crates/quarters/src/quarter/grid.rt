@@ -12,7 +12,7 @@ use streets::street::Street;
 // Why no quarter was made: a number is outside its range.
 #[derive(Clone, Copy, Debug, PartialEq, Eq)]
 pub enum QuarterRefusal {
-    OutOfRange,
+    OutOfRange = 51,
 }
 
 // A number that does not fit its field is outside its range.
@@ -29,9 +29,7 @@ impl QuarterRefusal {
     pub fn number(self) -> u8
         ensures { result ≡ number_of self }
     {
-        match self {
-            QuarterRefusal::OutOfRange => 51,
-        }
+        self as u8
     }
 }
 

@@ -100,7 +100,8 @@ impl<'a> Reader<'a> {
         }
     }
 
-    // Goes to the next line, and answers whether there is one. A line without its end is refused.
+    // Goes to the next line, and answers whether there is one. A line without its end is refused. The answer is no `Option`,
+    // since nothing is handed out: the fields are asked of the reader.
     pub fn next_line(&mut self) -> Result<bool, LineFault>
         ensures { LineStep self.old self.new result }
     {
