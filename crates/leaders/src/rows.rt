@@ -10,14 +10,14 @@ ghost use Rattle.minima.specs.Tables.{Tables};
 ghost use Rattle.waiting.specs.Queues.{waiting_in};
 
 use cells::cell::Cell;
-use cells::order::entry_at_or_before;
 use jobs::job::Job;
+use least::TotalOrder;
 use measures::Measure;
 use tables::access::{cell_at, set_entry};
 use waiting::picking::{least_in, with_plan};
 use waiting::queue::Entries;
 
-// Two waiting subspaces change places; nothing else changes.
+// Two waiting subspaces change places; nothing else changes. No `swap`, which would move the other parts of the cells too.
 fn exchange<M, V: Copy>(cells: &mut [Cell<M, V>], a: usize, b: usize)
     requires { (a < length cells.old) × (b < length cells.old) }
     ensures { Exchanged cells.old cells.new a b }
@@ -33,9 +33,7 @@ fn comes_after<M: Measure>(cells: &[Cell<M, M::Value>], a: usize, b: usize) -> b
     requires { (a < length cells.now) × (b < length cells.now) }
     ensures { result ≡ not (entry_before M.Measure.meaning.before (entry_in cells.now a) (entry_in cells.now b)) }
 {
-    let one = cell_at(cells, a).entry;
-    let other = cell_at(cells, b).entry;
-    !entry_at_or_before::<M>(&one, &other)
+    !cell_at(cells, a).at_or_before(cell_at(cells, b))
 }
 
 // The earlier of two waiting subspaces goes into the first cell, and the other into the second.

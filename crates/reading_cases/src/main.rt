@@ -142,17 +142,20 @@ impl Display for ShownStop {
 }
 
 // A fault: its number, its line and field, and in which text it is.
-fn print_fault(rt: &HostRuntime, fault: TextFault) -> io::Result<()> {
-    let text = match fault {
-        TextFault::Book(_) => "book",
-        TextFault::Job(_) => "job",
-    };
-    println!(rt;
-        "E {} {} {} in a {text}",
-        fault.number(),
-        fault.line(),
-        fault.field()
-    )
+#[derive(Clone, Copy)]
+struct ShownFault(TextFault);
+
+impl Display for ShownFault {
+    fn fmt<W: Write>(&self, f: &mut Formatter<W>) -> fmt::Result {
+        let text = match self.0 {
+            TextFault::Book(_) => "book",
+            TextFault::Job(_) => "job",
+        };
+        let number = self.0.number();
+        let line = self.0.line();
+        let field = self.0.field();
+        write!(f, "E {number} {line} {field} in a {text}")
+    }
 }
 
 // Reads a street book. The lists are printed whole, so that what was left untouched shows.
@@ -164,7 +167,7 @@ fn book_case(rt: &HostRuntime, rest: &str) -> anyhow::Result<()> {
     let bytes = unescaped(rt.alloc(), text)?;
     match read_book(&bytes, &mut kinds, &mut legs) {
         Ok(Counts { places, legs }) => println!(rt; "places {places} legs {legs}")?,
-        Err(fault) => print_fault(rt, fault)?,
+        Err(fault) => println!(rt; "{}", ShownFault(fault))?,
     }
     if kinds.len() + legs.len() <= 16 {
         println!(rt; "  kinds{} legs{}", Kinds(&kinds), Legs(&legs))?;
@@ -178,7 +181,7 @@ fn job_case(rt: &HostRuntime, text: &str) -> anyhow::Result<()> {
     let mut job = Job::new();
     match read_job(&bytes, &mut job) {
         Ok(stops) => println!(rt; "stops {stops}")?,
-        Err(fault) => print_fault(rt, fault)?,
+        Err(fault) => println!(rt; "{}", ShownFault(fault))?,
     }
     print!(rt; "  job")?;
     for stop in job.stops() {

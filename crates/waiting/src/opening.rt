@@ -16,7 +16,8 @@ use search::firsts::first_plan;
 use sets::PlaceSet;
 use tables::access::set_entry;
 
-// Leaves no subspace waiting in the cells from one to another, for m stops.
+// Leaves no subspace waiting in the cells from one to another, for m stops. By index: of what is written through `iter_mut` a
+// proof knows how many they are, and no more.
 fn clear<M, V: Copy>(cells: &mut [Cell<M, V>], from: usize, to: usize, m: usize)
     requires { to ≤ length cells.old }
     ensures kept { Kept from cells.old cells.new }

@@ -26,7 +26,7 @@ fn part_at<M: Measure>(board: &Board<'_, M, M::Value>, from: &[u8; 12], t: usize
     ensures safe { Safe board.now.n (length (stops_of board.now.job.now)) result }
     ensures first { let b = board.now in (τ : Task (Option M.Value)) (H : ℕ → ℕ → Option M.Value) → Tables M.Measure.meaning b.cells.now b.n (stops_of b.job.now) τ H → First (optional M.Measure.meaning) τ H (space_of result) }
 {
-    let excluded = PlaceSet::empty().with(from[t] as usize);
+    let excluded = PlaceSet::empty().with(usize::from(from[t]));
     let prefix = Prefix {
         board: &*board,
         places: &*from,
@@ -72,7 +72,7 @@ fn excluded_here<V: Copy>(old: &Entry<V>) -> PlaceSet
     requires { old.now.depth < 12 }
     ensures { (q : ℕ) → has_bit result.bits q ≡ (has_bit old.now.excluded.bits q || (q == places_of old.now.places old.now.depth && nat_lt (places_of old.now.places old.now.depth) 64)) }
 {
-    old.excluded.with(old.places[old.depth] as usize)
+    old.excluded.with(usize::from(old.places[old.depth]))
 }
 
 // The part of a subspace with the plans that leave its first plan at its own depth.

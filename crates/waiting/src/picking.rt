@@ -39,7 +39,8 @@ pub fn with_plan<M, V: Copy>(cells: &[Cell<M, V>], base: usize, w: usize) -> Opt
     cell_at(cells, base + w).entry.score.map(|_| w)
 }
 
-// Where the first plan waits that is not given, or none where no plan is left.
+// Where the first plan waits that is not given, or none where no plan is left. By cases: with `?`, which was tried, the
+// clauses at its exit speak of what `from_residual` answers, and stay open.
 pub fn find_next<'a, M: Measure>(
     cells: &'a [Cell<M, M::Value>],
     job: &Job,
