@@ -1,7 +1,7 @@
 ghost use Rattle.std.specs.Prelude.{◌≡◌, ◌*◌, ◌<◌, ◌≤◌, ◌&&◌, length};
 ghost use Rattle.jobs.specs.Jobs.{stops_of};
 ghost use Rattle.tables.specs.Tables.{leg_in, ride_in};
-ghost use Rattle.minima.specs.Tables.{by_link, tie_in, parent_in, link_in, child_in};
+ghost use Rattle.minima.specs.Tables.{tie_in, parent_in, link_in, child_in};
 
 use cells::cell::Cell;
 use jobs::job::Job;
@@ -34,25 +34,8 @@ pub fn is_child(job: &Job, s: usize, c: usize) -> bool
     c > 0 && parent_at(job, c) == s
 }
 
-// The value of a link from place p to place q: of a direct one that leg's, of a ride the best walk's.
-fn link_value<M, V: Copy>(
-    cells: &[Cell<M, V>],
-    n: usize,
-    link: Link,
-    p: usize,
-    q: usize,
-) -> Option<V>
-    requires { (p < n) × (q < n) × (n ≤ 64) × (n * n ≤ length cells.now) }
-    ensures { result ≡ by_link link (leg_in cells.now n p q) (ride_in cells.now n p q) }
-{
-    let pair = pair_at(cells, n, p, q);
-    match link {
-        Link::Direct => pair.leg,
-        Link::Ride => pair.ride,
-    }
-}
-
-// The value of a stop's link from its parent's place to its own.
+// The value of a stop's link from its parent's place to its own: of a direct one that leg's, of a ride the best walk's.
+// It is public beside `Board::link`, since it asks only for the cells of the pairs, which is less than a board asks.
 pub fn link_at<M, V: Copy>(
     cells: &[Cell<M, V>],
     n: usize,
@@ -64,5 +47,9 @@ pub fn link_at<M, V: Copy>(
     requires { (p < n) × (q < n) × (n ≤ 64) × (n * n ≤ length cells.now) }
     ensures { result ≡ link_in cells.now n (stops_of job.now) s p q }
 {
-    link_value(cells, n, tie_at(job, s)?.link, p, q)
+    let pair = pair_at(cells, n, p, q);
+    match tie_at(job, s)?.link {
+        Link::Direct => pair.leg,
+        Link::Ride => pair.ride,
+    }
 }
