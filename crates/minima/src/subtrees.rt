@@ -91,20 +91,7 @@ fn fill_hang<M: Measure>(cells: &mut [Cell<M, M::Value>], n: usize, job: &Job, s
     }
 }
 
-// Fills in the minima of all m stops, from the last one to the first. It is apart from `fill_minima` so that a wrong number
-// of stops is refused at its call.
-fn fill_rows<M: Measure>(cells: &mut [Cell<M, M::Value>], n: usize, job: &Job, m: usize)
-    requires { Ready cells.old n (stops_of job.now) × (m ≡ length (stops_of job.now)) }
-    ensures stays { Stays cells.old cells.new }
-    ensures rows { (s : ℕ) → s < length (stops_of job.now) → RowIn M.Measure.meaning cells.new n (stops_of job.now) s }
-{
-    for s in (0..m).rev() {
-        fill_best::<M>(cells, n, job, s);
-        fill_hang::<M>(cells, n, job, s);
-    }
-}
-
-// Fills in the minima of all subtrees.
+// Fills in the minima of all subtrees, from the last stop to the first.
 pub fn fill_minima<M: Measure>(cells: &mut [Cell<M, M::Value>], n: usize, job: &Job)
     requires { Ready cells.old n (stops_of job.now) }
     ensures stays { Stays cells.old cells.new }
@@ -113,6 +100,8 @@ pub fn fill_minima<M: Measure>(cells: &mut [Cell<M, M::Value>], n: usize, job: &
     ensures tables { (τ : Task (Option M.Value)) → Holds cells.old n (stops_of job.now) τ → Tables M.Measure.meaning cells.new n (stops_of job.now) τ (hang_in cells.new n) }
     ensures least { (τ : Task (Option M.Value)) → Holds cells.old n (stops_of job.now) τ → (s : ℕ) → s < length (stops_of job.now) → SubtreeLeast (optional M.Measure.meaning) τ s (best_in cells.new n s) (hang_in cells.new n s) }
 {
-    let m = job.len();
-    fill_rows::<M>(cells, n, job, m);
+    for s in (0..job.len()).rev() {
+        fill_best::<M>(cells, n, job, s);
+        fill_hang::<M>(cells, n, job, s);
+    }
 }
