@@ -1,5 +1,4 @@
 ghost use Rattle.std.specs.Prelude.{◌≡◌, ℕ, ◌+◌, ◌<◌, ◌⊎◌, length, if◌then◌else◌, Some, Option, nat_eq};
-ghost use Rattle.measures.specs.Optional.{both};
 ghost use Rattle.jobs.specs.Jobs.{stops_of};
 ghost use Rattle.measures.specs.Scales.{optional};
 ghost use Rattle.trees.specs.Tasks.{Task, put};
@@ -14,21 +13,6 @@ use measures::optional::join_options;
 use minima::board::Board;
 use minima::links::parent_at;
 use sets::PlaceSet;
-
-// A stop's own value and its link's, joined; the root has no link.
-fn with_link<M: Measure>(
-    s: usize,
-    own: Option<M::Value>,
-    link: Option<M::Value>,
-) -> Option<M::Value>
-    ensures { result ≡ (if nat_eq s 0 then own else both M.Measure.meaning.joined own link) }
-{
-    if s == 0 {
-        own
-    } else {
-        join_options::<M>(own, link)
-    }
-}
 
 // The plans in which the stops below stop i have these places.
 #[derive(Drop)]
@@ -50,17 +34,28 @@ impl<'a, M: Measure> Prefix<'a, M, M::Value> {
         usize::from(self.places[t])
     }
 
+    // The link of stop s, at most stop i, from its parent's place to place q; the root, which has none, adds nothing.
+    fn link_to(&self, s: usize, q: usize) -> Option<M::Value>
+        requires { (s < self.now.i + 1) × (q < self.now.board.now.n) }
+        ensures { let b = self.now.board.now in let stops = stops_of b.job.now in
+            result ≡ (if nat_eq s 0 then Some M.Measure.meaning.nought else link_in b.cells.now b.n stops s (places_of self.now.places.now (parent_in stops s)) q) }
+    {
+        if s == 0 {
+            return Some(M::ZERO);
+        }
+        let p = self.place(parent_at(self.board.job, s));
+        self.board.link(s, p, q)
+    }
+
     // What a stop below stop i adds at its place: its own value and its link's.
     fn cost(&self, s: usize) -> Option<M::Value>
         requires { s < self.now.i }
         ensures { let b = self.now.board.now in let stops = stops_of b.job.now in let places = places_of self.now.places.now in
             result ≡ cost_in M.Measure.meaning b.cells.now b.n stops s (places (parent_in stops s)) (places s) }
     {
-        let p = self.place(parent_at(self.board.job, s));
         let q = self.place(s);
-        let own = self.board.own(s, q);
-        let link = self.board.link(s, p, q);
-        with_link::<M>(s, own, link)
+        let link = self.link_to(s, q);
+        join_options::<M>(self.board.own(s, q), link)
     }
 
     // What stop s adds: its cost where it has a place, or the least value of it and all below it.
@@ -103,25 +98,12 @@ impl<'a, M: Measure> Prefix<'a, M, M::Value> {
         sum
     }
 
-    // The link of stop i from its parent's place to place q; the root, which has none, adds nothing.
-    fn link_to(&self, q: usize) -> Option<M::Value>
-        requires { q < self.now.board.now.n }
-        ensures { let b = self.now.board.now in let stops = stops_of b.job.now in
-            result ≡ (if nat_eq self.now.i 0 then Some M.Measure.meaning.nought else link_in b.cells.now b.n stops self.now.i (places_of self.now.places.now (parent_in stops self.now.i)) q) }
-    {
-        if self.i == 0 {
-            return Some(M::ZERO);
-        }
-        let p = self.place(parent_at(self.board.job, self.i));
-        self.board.link(self.i, p, q)
-    }
-
     // What stop i and all below it add at place q at the least.
     fn here(&self, q: usize) -> Option<M::Value>
         requires { q < self.now.board.now.n }
         ensures { let b = self.now.board.now in result ≡ here_in M.Measure.meaning b.cells.now b.n (stops_of b.job.now) self.now.i (places_of self.now.places.now) q }
     {
-        let link = self.link_to(q);
+        let link = self.link_to(self.i, q);
         join_options::<M>(link, self.board.best_value(self.i, q))
     }
 
@@ -153,6 +135,7 @@ impl<'a, M: Measure> Prefix<'a, M, M::Value> {
             result.value ≡ bound (optional M.Measure.meaning) τ H (self.now.i + 1) (put (places_of self.now.places.now) self.now.i q) }
     {
         let value = self.bound_with(rest, q);
+        // A place is below n, at most 64: the cast loses nothing, and `u8::try_from` would bring an error that cannot come.
         Choice {
             place: q as u8,
             value,
