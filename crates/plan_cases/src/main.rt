@@ -6,9 +6,9 @@
 // All cases of a measure use the same cells, as the case before left them.
 #![tactic(auto)]
 
-ghost use Rattle.std.specs.Prelude.{◌≡◌, ◌<◌, ◌≤◌, IfSome, length};
+ghost use Rattle.std.specs.Prelude.{◌≡◌, ◌≢◌, ◌<◌, ◌≤◌, None, IfSome, IfOk, length};
 ghost use Rattle.jobs.specs.Jobs.{stops_of};
-ghost use Rattle.turns.specs.Standing.{behind_tables, needed};
+ghost use Rattle.turns.specs.Standing.{behind_tables, needed, entry_at};
 ghost use Rattle.leaders.specs.Leaders.{Rows};
 
 use anyhow::anyhow;
@@ -148,41 +148,56 @@ fn read_job(text: &str) -> anyhow::Result<Option<Job>> {
     Ok(job_of(draft))
 }
 
-// A case: the quarter, the job, and how many plans are wanted.
+// A case as a line tells it: the quarter, none where a number is outside its range, the job, none where its stops make
+// no tree, and how many plans are wanted.
 #[derive(Clone, Copy)]
 struct Case {
-    quarter: Quarter,
-    job: Job,
+    quarter: Option<Quarter>,
+    job: Option<Job>,
     wanted: u32,
 }
 
-// The case that a text has, or why it has none.
-fn read_case(text: &str) -> anyhow::Result<Result<Case, Refusal>> {
+// The case that a text has.
+fn read_case(text: &str) -> anyhow::Result<Case> {
     let (numbers, rest) = read_front(text)?;
     let [width, height, kinds, seconds, climb, wanted] = numbers;
     let job = read_job(rest)?;
-    let Ok(quarter) = Quarter::new(width, height, kinds, seconds, climb) else {
-        return Ok(Err(Refusal::NoQuarter));
-    };
-    let Some(job) = job else {
-        return Ok(Err(Refusal::NoJob));
-    };
-    Ok(Ok(Case {
+    let quarter = Quarter::new(width, height, kinds, seconds, climb).ok();
+    Ok(Case {
         quarter,
         job,
         wanted,
-    }))
+    })
 }
 
-// What a case asks for over n places, none where that is more than can be asked.
-fn order_of(n: usize, job: &Job, k: usize) -> Option<Order<'_>>
-    ensures { IfSome result (λ o. (o.n ≡ n) × (o.job.now ≡ job.now) × (o.k ≡ k)) }
+// What a case asks for over n places, with `len` cells, or why that has no plans.
+fn order_of(n: usize, job: &Job, k: usize, len: usize) -> Result<Order<'_>, Refusal>
+    ensures { IfOk result (λ o. needed o.n (length (stops_of o.job.now)) o.k ≤ len) }
 {
-    if n <= 64 && (1..=256).contains(&k) {
-        Some(Order { n, job, k })
-    } else {
-        None
+    if n > 64 || !(1..=256).contains(&k) {
+        return Err(Refusal::NoRoom);
     }
+    let order = Order { n, job, k };
+    if order.room() <= len {
+        Ok(order)
+    } else {
+        Err(Refusal::NoRoom)
+    }
+}
+
+// Lets all plans of a case wait in lent cells, or says why it has none.
+fn begin<'a, M: Measure>(
+    cells: &mut [Cell<M, M::Value>],
+    case: &'a Case,
+) -> Result<Order<'a>, Refusal>
+    ensures { IfOk result (λ o. let m = length (stops_of o.job.now) in (needed o.n m o.k ≤ length cells.new) × Rows cells.new (behind_tables o.n m) o.n m o.k 0) }
+{
+    let quarter = case.quarter.as_ref().ok_or(Refusal::NoQuarter)?;
+    let job = case.job.as_ref().ok_or(Refusal::NoJob)?;
+    let n = fill::<M, Quarter>(cells, quarter).map_err(|_| Refusal::NoRoom)?;
+    let order = order_of(n, job, case.wanted as usize, cells.len())?;
+    order.begin::<M>(cells);
+    Ok(order)
 }
 
 // Prints the plan of entry w, `rows` plans being given before it.
@@ -193,15 +208,12 @@ fn print_plan<M: Measure>(
     rows: usize,
     w: usize,
 ) -> io::Result<()>
-    requires { let o = order.now in (needed o.n (length (stops_of o.job.now)) o.k ≤ length cells.now) × (rows < o.k) × (w < o.k) }
+    requires { let o = order.now in (needed o.n (length (stops_of o.job.now)) o.k ≤ length cells.now) × (rows < o.k) × (w < o.k) × ((entry_at cells.now o.n (length (stops_of o.job.now)) w).score ≢ None) }
 {
     let plan = cell_at(cells, order.base() + w).entry;
-    let Some(score) = plan.score else {
-        return println!(rt; "no score");
-    };
     let line = Line {
         number: rows + 1,
-        score: Score(M::show(score)),
+        score: Score(M::show(plan.score.unwrap())),
         places: &plan.places[0..order.job.len()],
     };
     println!(rt; "{line}")
@@ -232,35 +244,27 @@ fn give_plans<M: Measure>(
     print_end(rt, most, order.look::<M>(cells))
 }
 
-// Gives the plans of a job over a street, and then the first of them once more.
+// Gives the plans of an order that wait, and then the first of them once more.
 fn give_twice<M: Measure>(
     rt: &HostRuntime,
     cells: &mut [Cell<M, M::Value>],
-    street: &Quarter,
-    job: &Job,
-    k: usize,
-) -> io::Result<()> {
-    let Ok(n) = fill::<M, Quarter>(cells, street) else {
-        return println!(rt; "{}", Refusal::NoRoom);
-    };
-    let order = match order_of(n, job, k) {
-        Some(order) if order.room() <= cells.len() => order,
-        _ => return println!(rt; "{}", Refusal::NoRoom),
-    };
-    order.begin::<M>(cells);
-    give_plans::<M>(rt, cells, &order, k)?;
+    order: &Order<'_>,
+) -> io::Result<()>
+    requires { let o = order.now in let m = length (stops_of o.job.now) in (needed o.n m o.k ≤ length cells.old) × Rows cells.old (behind_tables o.n m) o.n m o.k 0 }
+{
+    give_plans::<M>(rt, cells, order, order.k)?;
     order.begin_again::<M>(cells);
-    give_plans::<M>(rt, cells, &order, 1)
+    give_plans::<M>(rt, cells, order, 1)
 }
 
 // Runs a case over lent cells, or prints why it has no plans.
 fn run_case<M: Measure>(
     rt: &HostRuntime,
     cells: &mut [Cell<M, M::Value>],
-    case: Result<Case, Refusal>,
+    case: &Case,
 ) -> io::Result<()> {
-    match case {
-        Ok(case) => give_twice::<M>(rt, cells, &case.quarter, &case.job, case.wanted as usize),
+    match begin::<M>(cells, case) {
+        Ok(order) => give_twice::<M>(rt, cells, &order),
         Err(refusal) => println!(rt; "{refusal}"),
     }
 }
@@ -280,9 +284,9 @@ fn run_line(
     }
     let case = read_case(rest)?;
     let done = match name {
-        "t" => run_case::<Time>(rt, times, case),
-        "l" => run_case::<Longest>(rt, longests, case),
-        "c" => run_case::<Climb>(rt, climbs, case),
+        "t" => run_case::<Time>(rt, times, &case),
+        "l" => run_case::<Longest>(rt, longests, &case),
+        "c" => run_case::<Climb>(rt, climbs, &case),
         _ => return Err(anyhow!("no such measure")),
     };
     Ok(done?)
