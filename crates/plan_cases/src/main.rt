@@ -23,6 +23,7 @@ use measures::time::Time;
 use measures::values::{ClimbValue, LongestValue, TimeValue};
 use quarters::quarter::Quarter;
 use rides::table::fill;
+use std::str::Split;
 use std::{fmt, io};
 use tables::access::cell_at;
 use turns::order::Order;
@@ -80,27 +81,18 @@ impl fmt::Display for Line<'_> {
     }
 }
 
-// The first word of a text, and what stands behind the space after it.
-fn cut(text: &str) -> (&str, &str) {
-    text.split_once(' ').unwrap_or(text.split_at(text.len()))
+// The next word, an empty one where none is left.
+fn next_word<'a>(words: &mut Split<'a, char>) -> &'a str {
+    words.next().unwrap_or("")
 }
 
-// The number in front of a text, and what stands behind it.
-fn read_number(text: &str) -> anyhow::Result<(u32, &str)> {
-    let (word, rest) = cut(text);
-    Ok((word.parse::<u32>()?, rest))
-}
-
-// The six numbers in front of a text, and what stands behind them.
-fn read_front(text: &str) -> anyhow::Result<([u32; 6], &str)> {
+// The next six words as numbers.
+fn read_front(words: &mut Split<'_, char>) -> anyhow::Result<[u32; 6]> {
     let mut numbers = [0; 6];
-    let mut rest = text;
     for number in &mut numbers {
-        let (next, behind) = read_number(rest)?;
-        *number = next;
-        rest = behind;
+        *number = next_word(words).parse::<u32>()?;
     }
-    Ok((numbers, rest))
+    Ok(numbers)
 }
 
 // How a stop hangs on its parent; not at all where the link is neither direct nor a ride.
@@ -114,14 +106,16 @@ fn tie_of(parent: &str, link: &str) -> anyhow::Result<Option<Tie>> {
     Ok(Some(Tie { parent, link }))
 }
 
-// The stop in front of a text, and what stands behind it.
-fn read_stop(text: &str) -> anyhow::Result<(Stop, &str)> {
-    let (kind, rest) = cut(text);
-    let (parent, rest) = cut(rest);
-    let (link, rest) = cut(rest);
+// The stop that the next three words tell, none where no word is left.
+fn read_stop(words: &mut Split<'_, char>) -> anyhow::Result<Option<Stop>> {
+    let Some(kind) = words.next() else {
+        return Ok(None);
+    };
+    let parent = next_word(words);
+    let link = next_word(words);
     let kind = kind.parse::<u8>()?;
     let tie = tie_of(parent, link)?;
-    Ok((Stop { kind, tie }, rest))
+    Ok(Some(Stop { kind, tie }))
 }
 
 // A draft put into a job, none where it has no stops.
@@ -131,19 +125,14 @@ fn job_of(draft: Draft) -> Option<Job> {
     Some(job)
 }
 
-// The job that a text has, none where its stops make no tree. The thirteenth stop is refused, so no more are read.
-fn read_job(text: &str) -> anyhow::Result<Option<Job>> {
+// The job that the words left tell, none where its stops make no tree. The thirteenth stop is refused, so no more are
+// read.
+fn read_job(words: &mut Split<'_, char>) -> anyhow::Result<Option<Job>> {
     let mut draft = Draft::new();
-    let mut rest = text;
-    for _ in 0..13 {
-        if rest.is_empty() {
-            break;
-        }
-        let (stop, behind) = read_stop(rest)?;
+    while let Some(stop) = read_stop(words)? {
         if draft.push(stop).is_err() {
             return Ok(None);
         }
-        rest = behind;
     }
     Ok(job_of(draft))
 }
@@ -157,11 +146,10 @@ struct Case {
     wanted: u32,
 }
 
-// The case that a text has.
-fn read_case(text: &str) -> anyhow::Result<Case> {
-    let (numbers, rest) = read_front(text)?;
-    let [width, height, kinds, seconds, climb, wanted] = numbers;
-    let job = read_job(rest)?;
+// The case that the words behind a measure tell.
+fn read_case(words: &mut Split<'_, char>) -> anyhow::Result<Case> {
+    let [width, height, kinds, seconds, climb, wanted] = read_front(words)?;
+    let job = read_job(words)?;
     let quarter = Quarter::new(width, height, kinds, seconds, climb).ok();
     Ok(Case {
         quarter,
@@ -278,11 +266,12 @@ fn run_line(
     line: &str,
 ) -> anyhow::Result<()> {
     println!(rt; "{line}")?;
-    let (name, rest) = cut(line);
+    let mut words = line.split(' ');
+    let name = next_word(&mut words);
     if name == "#" {
         return Ok(());
     }
-    let case = read_case(rest)?;
+    let case = read_case(&mut words)?;
     let done = match name {
         "t" => run_case::<Time>(rt, times, &case),
         "l" => run_case::<Longest>(rt, longests, &case),
