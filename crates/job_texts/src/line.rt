@@ -13,6 +13,7 @@ use texts::reader::Reader;
 const LAST_STOP: u64 = 11;
 
 // The fields of a stop line: a lone `-` as parent is none, and the link is a letter.
+// Its bounds stand in the contracts: anyone may build one, and an invariant would ask more of whoever does.
 #[derive(Clone, Copy, Debug, PartialEq, Eq)]
 pub struct StopLine {
     pub number: u64,
@@ -67,6 +68,7 @@ impl StopLine {
     {
         match self.parent {
             None if told == 0 => self.root(at),
+            // the reader bounds a parent by 11, so `as` drops nothing; `u8::try_from` would add an error that cannot come
             Some(parent) if parent < told as u64 => self.link(at, parent as u8),
             _ => Err(at.fault(FieldWrong::WrongParent, 3)),
         }
@@ -81,6 +83,7 @@ impl StopLine {
         if self.number != told as u64 {
             return Err(at.fault(FieldWrong::NotNextStop, 2));
         }
+        // the reader bounds a kind by 255, so `as` drops nothing; `u8::try_from` would add an error that cannot come
         Ok(Stop {
             kind: self.kind as u8,
             tie: self.tie(at, told)?,

@@ -6,9 +6,9 @@
 // All cases of a measure use the same cells, as the case before left them.
 #![tactic(auto)]
 
-ghost use Rattle.std.specs.Prelude.{◌≡◌, ◌<◌, ◌≤◌, IfSome, length};
+ghost use Rattle.std.specs.Prelude.{◌≡◌, ◌≢◌, ◌<◌, ◌≤◌, None, IfSome, IfOk, length};
 ghost use Rattle.jobs.specs.Jobs.{stops_of};
-ghost use Rattle.turns.specs.Standing.{behind_tables, needed};
+ghost use Rattle.turns.specs.Standing.{behind_tables, needed, entry_at};
 ghost use Rattle.leaders.specs.Leaders.{Rows};
 
 use anyhow::anyhow;
@@ -23,6 +23,7 @@ use measures::time::Time;
 use measures::values::{ClimbValue, LongestValue, TimeValue};
 use quarters::quarter::Quarter;
 use rides::table::fill;
+use std::str::Split;
 use std::{fmt, io};
 use tables::access::cell_at;
 use turns::order::Order;
@@ -80,27 +81,18 @@ impl fmt::Display for Line<'_> {
     }
 }
 
-// The first word of a text, and what stands behind the space after it.
-fn cut(text: &str) -> (&str, &str) {
-    text.split_once(' ').unwrap_or(text.split_at(text.len()))
+// The next word, an empty one where none is left.
+fn next_word<'a>(words: &mut Split<'a, char>) -> &'a str {
+    words.next().unwrap_or("")
 }
 
-// The number in front of a text, and what stands behind it.
-fn read_number(text: &str) -> anyhow::Result<(u32, &str)> {
-    let (word, rest) = cut(text);
-    Ok((word.parse::<u32>()?, rest))
-}
-
-// The six numbers in front of a text, and what stands behind them.
-fn read_front(text: &str) -> anyhow::Result<([u32; 6], &str)> {
+// The next six words as numbers.
+fn read_front(words: &mut Split<'_, char>) -> anyhow::Result<[u32; 6]> {
     let mut numbers = [0; 6];
-    let mut rest = text;
     for number in &mut numbers {
-        let (next, behind) = read_number(rest)?;
-        *number = next;
-        rest = behind;
+        *number = next_word(words).parse::<u32>()?;
     }
-    Ok((numbers, rest))
+    Ok(numbers)
 }
 
 // How a stop hangs on its parent; not at all where the link is neither direct nor a ride.
@@ -114,14 +106,16 @@ fn tie_of(parent: &str, link: &str) -> anyhow::Result<Option<Tie>> {
     Ok(Some(Tie { parent, link }))
 }
 
-// The stop in front of a text, and what stands behind it.
-fn read_stop(text: &str) -> anyhow::Result<(Stop, &str)> {
-    let (kind, rest) = cut(text);
-    let (parent, rest) = cut(rest);
-    let (link, rest) = cut(rest);
+// The stop that the next three words tell, none where no word is left.
+fn read_stop(words: &mut Split<'_, char>) -> anyhow::Result<Option<Stop>> {
+    let Some(kind) = words.next() else {
+        return Ok(None);
+    };
+    let parent = next_word(words);
+    let link = next_word(words);
     let kind = kind.parse::<u8>()?;
     let tie = tie_of(parent, link)?;
-    Ok((Stop { kind, tie }, rest))
+    Ok(Some(Stop { kind, tie }))
 }
 
 // A draft put into a job, none where it has no stops.
@@ -131,58 +125,67 @@ fn job_of(draft: Draft) -> Option<Job> {
     Some(job)
 }
 
-// The job that a text has, none where its stops make no tree. The thirteenth stop is refused, so no more are read.
-fn read_job(text: &str) -> anyhow::Result<Option<Job>> {
+// The job that the words left tell, none where its stops make no tree. The thirteenth stop is refused, so no more are
+// read.
+fn read_job(words: &mut Split<'_, char>) -> anyhow::Result<Option<Job>> {
     let mut draft = Draft::new();
-    let mut rest = text;
-    for _ in 0..13 {
-        if rest.is_empty() {
-            break;
-        }
-        let (stop, behind) = read_stop(rest)?;
+    while let Some(stop) = read_stop(words)? {
         if draft.push(stop).is_err() {
             return Ok(None);
         }
-        rest = behind;
     }
     Ok(job_of(draft))
 }
 
-// A case: the quarter, the job, and how many plans are wanted.
+// A case as a line tells it: the quarter, none where a number is outside its range, the job, none where its stops make
+// no tree, and how many plans are wanted.
 #[derive(Clone, Copy)]
 struct Case {
-    quarter: Quarter,
-    job: Job,
+    quarter: Option<Quarter>,
+    job: Option<Job>,
     wanted: u32,
 }
 
-// The case that a text has, or why it has none.
-fn read_case(text: &str) -> anyhow::Result<Result<Case, Refusal>> {
-    let (numbers, rest) = read_front(text)?;
-    let [width, height, kinds, seconds, climb, wanted] = numbers;
-    let job = read_job(rest)?;
-    let Ok(quarter) = Quarter::new(width, height, kinds, seconds, climb) else {
-        return Ok(Err(Refusal::NoQuarter));
-    };
-    let Some(job) = job else {
-        return Ok(Err(Refusal::NoJob));
-    };
-    Ok(Ok(Case {
+// The case that the words behind a measure tell.
+fn read_case(words: &mut Split<'_, char>) -> anyhow::Result<Case> {
+    let [width, height, kinds, seconds, climb, wanted] = read_front(words)?;
+    let job = read_job(words)?;
+    let quarter = Quarter::new(width, height, kinds, seconds, climb).ok();
+    Ok(Case {
         quarter,
         job,
         wanted,
-    }))
+    })
 }
 
-// What a case asks for over n places, none where that is more than can be asked.
-fn order_of(n: usize, job: &Job, k: usize) -> Option<Order<'_>>
-    ensures { IfSome result (λ o. (o.n ≡ n) × (o.job.now ≡ job.now) × (o.k ≡ k)) }
+// What a case asks for over n places, with `len` cells, or why that has no plans.
+fn order_of(n: usize, job: &Job, k: usize, len: usize) -> Result<Order<'_>, Refusal>
+    ensures { IfOk result (λ o. needed o.n (length (stops_of o.job.now)) o.k ≤ len) }
 {
-    if n <= 64 && (1..=256).contains(&k) {
-        Some(Order { n, job, k })
-    } else {
-        None
+    if n > 64 || !(1..=256).contains(&k) {
+        return Err(Refusal::NoRoom);
     }
+    let order = Order { n, job, k };
+    if order.room() <= len {
+        Ok(order)
+    } else {
+        Err(Refusal::NoRoom)
+    }
+}
+
+// Lets all plans of a case wait in lent cells, or says why it has none.
+fn begin<'a, M: Measure>(
+    cells: &mut [Cell<M, M::Value>],
+    case: &'a Case,
+) -> Result<Order<'a>, Refusal>
+    ensures { IfOk result (λ o. let m = length (stops_of o.job.now) in (needed o.n m o.k ≤ length cells.new) × Rows cells.new (behind_tables o.n m) o.n m o.k 0) }
+{
+    let quarter = case.quarter.as_ref().ok_or(Refusal::NoQuarter)?;
+    let job = case.job.as_ref().ok_or(Refusal::NoJob)?;
+    let n = fill::<M, Quarter>(cells, quarter).map_err(|_| Refusal::NoRoom)?;
+    let order = order_of(n, job, case.wanted as usize, cells.len())?;
+    order.begin::<M>(cells);
+    Ok(order)
 }
 
 // Prints the plan of entry w, `rows` plans being given before it.
@@ -193,15 +196,12 @@ fn print_plan<M: Measure>(
     rows: usize,
     w: usize,
 ) -> io::Result<()>
-    requires { let o = order.now in (needed o.n (length (stops_of o.job.now)) o.k ≤ length cells.now) × (rows < o.k) × (w < o.k) }
+    requires { let o = order.now in (needed o.n (length (stops_of o.job.now)) o.k ≤ length cells.now) × (rows < o.k) × (w < o.k) × ((entry_at cells.now o.n (length (stops_of o.job.now)) w).score ≢ None) }
 {
     let plan = cell_at(cells, order.base() + w).entry;
-    let Some(score) = plan.score else {
-        return println!(rt; "no score");
-    };
     let line = Line {
         number: rows + 1,
-        score: Score(M::show(score)),
+        score: Score(M::show(plan.score.unwrap())),
         places: &plan.places[0..order.job.len()],
     };
     println!(rt; "{line}")
@@ -232,35 +232,27 @@ fn give_plans<M: Measure>(
     print_end(rt, most, order.look::<M>(cells))
 }
 
-// Gives the plans of a job over a street, and then the first of them once more.
+// Gives the plans of an order that wait, and then the first of them once more.
 fn give_twice<M: Measure>(
     rt: &HostRuntime,
     cells: &mut [Cell<M, M::Value>],
-    street: &Quarter,
-    job: &Job,
-    k: usize,
-) -> io::Result<()> {
-    let Ok(n) = fill::<M, Quarter>(cells, street) else {
-        return println!(rt; "{}", Refusal::NoRoom);
-    };
-    let order = match order_of(n, job, k) {
-        Some(order) if order.room() <= cells.len() => order,
-        _ => return println!(rt; "{}", Refusal::NoRoom),
-    };
-    order.begin::<M>(cells);
-    give_plans::<M>(rt, cells, &order, k)?;
+    order: &Order<'_>,
+) -> io::Result<()>
+    requires { let o = order.now in let m = length (stops_of o.job.now) in (needed o.n m o.k ≤ length cells.old) × Rows cells.old (behind_tables o.n m) o.n m o.k 0 }
+{
+    give_plans::<M>(rt, cells, order, order.k)?;
     order.begin_again::<M>(cells);
-    give_plans::<M>(rt, cells, &order, 1)
+    give_plans::<M>(rt, cells, order, 1)
 }
 
 // Runs a case over lent cells, or prints why it has no plans.
 fn run_case<M: Measure>(
     rt: &HostRuntime,
     cells: &mut [Cell<M, M::Value>],
-    case: Result<Case, Refusal>,
+    case: &Case,
 ) -> io::Result<()> {
-    match case {
-        Ok(case) => give_twice::<M>(rt, cells, &case.quarter, &case.job, case.wanted as usize),
+    match begin::<M>(cells, case) {
+        Ok(order) => give_twice::<M>(rt, cells, &order),
         Err(refusal) => println!(rt; "{refusal}"),
     }
 }
@@ -274,15 +266,16 @@ fn run_line(
     line: &str,
 ) -> anyhow::Result<()> {
     println!(rt; "{line}")?;
-    let (name, rest) = cut(line);
+    let mut words = line.split(' ');
+    let name = next_word(&mut words);
     if name == "#" {
         return Ok(());
     }
-    let case = read_case(rest)?;
+    let case = read_case(&mut words)?;
     let done = match name {
-        "t" => run_case::<Time>(rt, times, case),
-        "l" => run_case::<Longest>(rt, longests, case),
-        "c" => run_case::<Climb>(rt, climbs, case),
+        "t" => run_case::<Time>(rt, times, &case),
+        "l" => run_case::<Longest>(rt, longests, &case),
+        "c" => run_case::<Climb>(rt, climbs, &case),
         _ => return Err(anyhow!("no such measure")),
     };
     Ok(done?)
