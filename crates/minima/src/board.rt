@@ -18,7 +18,7 @@ pub struct Board<'a, M, V> {
 }
 
 impl<'a, M, V: Copy> Board<'a, M, V> {
-    // The cell of a stop at a place.
+    // The cell of a stop at a place; `own`, `best` and `hang` each read one field of it, which their contracts name.
     fn stop(&self, s: usize, q: usize) -> &Cell<M, V>
         requires { (s < length (stops_of self.now.job.now)) × (q < self.now.n) }
         ensures own { result.now.own ≡ own_in self.now.cells.now self.now.n s q }
