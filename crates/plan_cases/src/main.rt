@@ -6,7 +6,7 @@
 // All cases of a measure use the same cells, as the case before left them.
 #![tactic(auto)]
 
-ghost use Rattle.std.specs.Prelude.{◌≡◌, ◌≢◌, ◌<◌, ◌≤◌, None, IfSome, IfOk, length};
+ghost use Rattle.std.specs.Prelude.{◌≢◌, ◌<◌, ◌≤◌, None, IfOk, length};
 ghost use Rattle.jobs.specs.Jobs.{stops_of};
 ghost use Rattle.turns.specs.Standing.{behind_tables, needed, entry_at};
 ghost use Rattle.leaders.specs.Leaders.{Rows};
