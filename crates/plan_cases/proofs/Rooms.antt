@@ -1,5 +1,5 @@
 -- The heads of all rows stand within the cells.
-use Rattle.std.proofs.Common.{◌≡◌, ℕ, ◌+◌, ◌*◌, ◌<◌, ◌≤◌, arith}
+use Rattle.std.proofs.Common.{◌≡◌, ℕ, ◌+◌, ◌<◌, ◌≤◌, arith}
 use Rattle.leaders.proofs.Foremost.{head_in}
 use Rattle.turns.specs.Standing.{behind_tables, needed}
 

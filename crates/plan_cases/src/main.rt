@@ -6,7 +6,7 @@
 // All cases of a measure use the same cells, as the case before left them.
 #![tactic(auto)]
 
-ghost use Rattle.std.specs.Prelude.{◌≡◌, ◌≢◌, ◌<◌, ◌≤◌, None, IfSome, IfOk, length};
+ghost use Rattle.std.specs.Prelude.{◌≢◌, ◌<◌, ◌≤◌, None, IfOk, length};
 ghost use Rattle.jobs.specs.Jobs.{stops_of};
 ghost use Rattle.turns.specs.Standing.{behind_tables, needed, entry_at};
 ghost use Rattle.leaders.specs.Leaders.{Rows};
@@ -23,7 +23,7 @@ use measures::time::Time;
 use measures::values::{ClimbValue, LongestValue, TimeValue};
 use quarters::quarter::Quarter;
 use rides::table::fill;
-use std::str::Split;
+use std::str::SplitTerminator;
 use std::{fmt, io};
 use tables::access::cell_at;
 use turns::order::Order;
@@ -82,12 +82,12 @@ impl fmt::Display for Line<'_> {
 }
 
 // The next word, an empty one where none is left.
-fn next_word<'a>(words: &mut Split<'a, char>) -> &'a str {
+fn next_word<'a>(words: &mut SplitTerminator<'a, char>) -> &'a str {
     words.next().unwrap_or("")
 }
 
 // The next six words as numbers.
-fn read_front(words: &mut Split<'_, char>) -> anyhow::Result<[u32; 6]> {
+fn read_front(words: &mut SplitTerminator<'_, char>) -> anyhow::Result<[u32; 6]> {
     let mut numbers = [0; 6];
     for number in &mut numbers {
         *number = next_word(words).parse::<u32>()?;
@@ -107,7 +107,7 @@ fn tie_of(parent: &str, link: &str) -> anyhow::Result<Option<Tie>> {
 }
 
 // The stop that the next three words tell, none where no word is left.
-fn read_stop(words: &mut Split<'_, char>) -> anyhow::Result<Option<Stop>> {
+fn read_stop(words: &mut SplitTerminator<'_, char>) -> anyhow::Result<Option<Stop>> {
     let Some(kind) = words.next() else {
         return Ok(None);
     };
@@ -127,7 +127,7 @@ fn job_of(draft: Draft) -> Option<Job> {
 
 // The job that the words left tell, none where its stops make no tree. The thirteenth stop is refused, so no more are
 // read.
-fn read_job(words: &mut Split<'_, char>) -> anyhow::Result<Option<Job>> {
+fn read_job(words: &mut SplitTerminator<'_, char>) -> anyhow::Result<Option<Job>> {
     let mut draft = Draft::new();
     while let Some(stop) = read_stop(words)? {
         if draft.push(stop).is_err() {
@@ -147,7 +147,7 @@ struct Case {
 }
 
 // The case that the words behind a measure tell.
-fn read_case(words: &mut Split<'_, char>) -> anyhow::Result<Case> {
+fn read_case(words: &mut SplitTerminator<'_, char>) -> anyhow::Result<Case> {
     let [width, height, kinds, seconds, climb, wanted] = read_front(words)?;
     let job = read_job(words)?;
     let quarter = Quarter::new(width, height, kinds, seconds, climb).ok();
@@ -266,7 +266,7 @@ fn run_line(
     line: &str,
 ) -> anyhow::Result<()> {
     println!(rt; "{line}")?;
-    let mut words = line.split(' ');
+    let mut words = line.split_terminator(' ');
     let name = next_word(&mut words);
     if name == "#" {
         return Ok(());
