@@ -1,9 +1,11 @@
--- The library's order of two lists of as many places is the order of plans by their places.
+-- The derived order of places, which is the library's of two lists, is the order of plans by their places.
 use Rattle.std.proofs.Common.{◌≡◌, ℕ, zero, suc, ◌+◌, List, [], ◌∷◌, length, get_or, Some, refl, ◌∙◌, ap, arith}
 use Rattle.std.proofs.lemmas.Bool.Decides.{nat_tests}
 use Rattle.std.specs.Ordering.{nat_cmp, is_le, is_some_and}
 use Rattle.std.specs.Cmp.Lexicographic.{slice_partial_cmp}
 use Rattle.trees.specs.Subspaces.{not_later}
+use Rattle.cells.specs.Cells.{places_of}
+use Rattle.cells.specs.declared.places.Places.{Places}
 
 -- from stop i on, P and Q have the places of the lists
 listed_from : (xs ys : List ℕ) (d i : ℕ) (P Q : ℕ → ℕ) → length xs ≡ d → length ys ≡ d → ((k : ℕ) → P (i + k) ≡ get_or xs k 0) → ((k : ℕ) → Q (i + k) ≡ get_or ys k 0) →
@@ -24,6 +26,5 @@ listed_from (x ∷ xs) (y ∷ ys) (suc d) i P Q h k p q =
     (λ j. (let e : i + 1 + j ≡ i + suc j = omega arith in ap Q e) ∙ q (suc j)) in
     rw a (rw b (grind (arith, nat_tests)))
 
-pub listed : (xs ys : List ℕ) → length xs ≡ 12 → length ys ≡ 12 →
-    is_some_and is_le (slice_partial_cmp (λ x y. Some (nat_cmp x y)) xs ys) ≡ not_later 12 0 (λ s. get_or xs s 0) (λ s. get_or ys s 0)
-listed xs ys h k = listed_from xs ys 12 0 (λ s. get_or xs s 0) (λ s. get_or ys s 0) h k (λ j. let e : 0 + j ≡ j = omega arith in ap (λ i. get_or xs i 0) e) (λ j. let e : 0 + j ≡ j = omega arith in ap (λ i. get_or ys i 0) e)
+pub listed : (a b : Places) → is_some_and is_le (slice_partial_cmp (λ x y. Some (nat_cmp x y)) a.by_stop b.by_stop) ≡ not_later 12 0 (places_of a) (places_of b)
+listed a b = listed_from a.by_stop b.by_stop 12 0 (places_of a) (places_of b) a.twelve b.twelve (λ j. let e : 0 + j ≡ j = omega arith in ap (places_of a) e) (λ j. let e : 0 + j ≡ j = omega arith in ap (places_of b) e)

@@ -1,22 +1,27 @@
 -- What a waiting subspace in a cell stands for, and the order of such cells.
-use Rattle.std.specs.Prelude.{ℕ, Bool, List, [], None, Option, replicate, slice_index}
+use Rattle.std.specs.Prelude.{ℕ, Bool, List, None, Option, refl, replicate, slice_index, take}
 use Rattle.sets.specs.Sets.{has_bit}
 use Rattle.measures.specs.Scales.{at_most}
 use Rattle.trees.specs.Subspaces.{Subspace, sooner}
 use Rattle.cells.specs.declared.cell.Cell.{Cell}
 use Rattle.cells.specs.declared.cell.Entry.{Entry}
+use Rattle.cells.specs.declared.places.Places.{Places}
 
--- the place of each stop in a list of places
-abbrev pub places_of : List ℕ → ℕ → ℕ
-places_of xs s = slice_index xs s
+-- the place of each stop
+abbrev pub places_of : Places → ℕ → ℕ
+places_of p s = slice_index p.by_stop s
 
--- an entry without a plan, at the default for reading lists
-abbrev pub no_entry : {V : Type 0} → Entry V
-no_entry = record { score = None; places = []; depth = 0; excluded = record { bits = 0 } }
+-- the places of the first m stops, in order
+abbrev pub first_places : ℕ → Places → List ℕ
+first_places m p = take m p.by_stop
+
+-- place 0 for each stop
+abbrev pub all_zero : Places
+all_zero = record { by_stop = replicate 12 0; twelve = refl }
 
 -- an entry without a plan, of this depth: each stop has place 0, and no place is excluded
 abbrev pub planless : {V : Type 0} → ℕ → Entry V
-planless d = record { score = None; places = replicate 12 0; depth = d; excluded = record { bits = 0 } }
+planless d = record { score = None; places = all_zero; depth = d; excluded = record { bits = 0 } }
 
 -- a cell in which nothing stands: no value, kind 0, and an entry of depth 0 without a plan
 abbrev pub empty_cell : {M V : Type 0} → Cell M V

@@ -1,16 +1,17 @@
 ghost use Rattle.std.specs.Prelude.{◌≡◌};
 ghost use Rattle.cells.specs.Cells.{planless, empty_cell};
 
+use crate::places::Places;
 use sets::PlaceSet;
 use std::marker::PhantomData;
 
 // A waiting subspace of plans: those that have the first `depth` of these places and at the next stop none of the
-// excluded ones. The places are its first plan, and the score is that plan's; no score means that it has no plan.
+// excluded ones. The places are its first plan, and the score is that plan's; no score means that it has no plan. Such an
+// entry names its subspace too: each placement that is not given, also one without a score, lies in some entry's.
 #[derive(Clone, Copy)]
 pub struct Entry<V> {
     pub score: Option<V>,
-    // twelve, whatever the job: a lent cell has a fixed size
-    pub places: [u8; 12],
+    pub places: Places,
     pub depth: usize,
     pub excluded: PlaceSet,
 }
@@ -22,7 +23,7 @@ impl<V> Entry<V> {
     {
         Entry {
             score: None,
-            places: [0; 12],
+            places: Places::zero(),
             depth,
             excluded: PlaceSet::empty(),
         }

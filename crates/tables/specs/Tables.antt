@@ -1,13 +1,13 @@
 -- Where the tables stand in a list of cells: for n places and m stops first n x n pairs of places, then m x n stops at
 -- places, then the waiting subspaces.
-use Rattle.std.specs.Prelude.{◌≡◌, ℕ, ◌+◌, ◌*◌, ◌<◌, List, get_or, None, Option, ◌≢◌, slice_index_or}
-use Rattle.cells.specs.Cells.{no_entry}
+use Rattle.std.specs.Prelude.{◌≡◌, ℕ, ◌+◌, ◌*◌, ◌<◌, List, get_or, Option, ◌≢◌, slice_index_or}
+use Rattle.cells.specs.Cells.{empty_cell}
 use Rattle.cells.specs.declared.cell.Cell.{Cell}
 use Rattle.cells.specs.declared.cell.Entry.{Entry}
 
 -- the one cell that is read outside a list
 abbrev pub blank : {M V : Type 0} → Cell M V
-blank = record { leg = None; ride = None; kind = 0; own = None; best = None; hang = None; entry = no_entry; measure = record {} }
+blank = empty_cell
 
 -- the leg from place a to place b
 unfoldable pub leg_in : {M V : Type 0} → List (Cell M V) → ℕ → ℕ → ℕ → Option V
