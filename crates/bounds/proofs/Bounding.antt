@@ -16,11 +16,9 @@ use Rattle.cells.specs.declared.cell.Cell.{Cell}
 use Rattle.tables.specs.Tables.{own_in, hang_in}
 use Rattle.minima.specs.Tables.{parent_in, hanging_in, Tables}
 use Rattle.jobs.proofs.Ties.{tied_below, both_below}
-use Rattle.bounds.specs.declared.choice.Choice.{Choice}
-use Rattle.bounds.specs.Prefixes.{term_in, cost_in, rest_in, here_in, Picking}
-use Rattle.trees.specs.Subspaces.{Picked}
-use Rattle.sets.specs.Sets.{has_bit}
+use Rattle.bounds.specs.Prefixes.{term_in, cost_in, rest_in, here_in, IsBound}
 use Rattle.cells.specs.Cells.{places_of}
+use Rattle.bounds.specs.declared.prefixes.Prefix.{Prefix}
 
 same_cond : {W : Type 0} (s i p : ℕ) (a a' b b' d : W) → (s < i → a ≡ a') → (i ≤ s → p < i → b ≡ b') → cond (ltb s i) a (cond (ltb p i) b d) ≡ cond (ltb s i) a' (cond (ltb p i) b' d)
 same_cond s i p a a' b b' d h k = grind (arith, nat_tests)
@@ -81,16 +79,15 @@ module _ {M V : Type 0} (meaning : MeasureMeaning V) (laws : Laws meaning.nought
       ap₂ (both meaning.joined) (rest_is 0 P l (λ t k. absurd (omega arith)) ∙ besides_root (optional meaning) (lifted meaning laws) τ H tables.holds.rooted P some) (s.zero_joined (both meaning.joined (own_in cells n 0 q) (hanging_in meaning cells n (stops_of j) 0 q)) ∙ subtree_is 0 q l h)
       ∙ s.zero_joined _ ∙ sym (bound_root (optional meaning) (lifted meaning laws) τ H tables.holds.rooted P some q)
 
-  pub bound_is : (i : ℕ) (P : ℕ → ℕ) (q : ℕ) → i < length (stops_of j) → q < n → ((t : ℕ) → t < i → P t < n) →
+  bound_is : (i : ℕ) (P : ℕ → ℕ) (q : ℕ) → i < length (stops_of j) → q < n → ((t : ℕ) → t < i → P t < n) →
       both meaning.joined (rest_in meaning cells n (stops_of j) i P) (here_in meaning cells n (stops_of j) i P q) ≡ bound (optional meaning) τ H (i + 1) (put P i q)
   bound_is i P q l h small = ⊎_elim
       (λ z. subst (λ (k : ℕ). both meaning.joined (rest_in meaning cells n (stops_of j) k P) (here_in meaning cells n (stops_of j) k P q) ≡ bound (optional meaning) τ H (k + 1) (put P k q)) (sym z) (root_is P q (omega arith) h))
       (λ d. behind_root i P q l h small (⊎_elim (λ g. g) (λ g. absurd (d (omega arith))) (cases_lt 0 i)))
       (cases_eq i 0)
 
--- the choice of place i, under the names that the code has for it
-pub moved : {V : Type 0} (meaning : MeasureMeaning V) (out : ℕ) (τ : Task (Option V)) (H : ℕ → ℕ → Option V) (places : List ℕ) (i q : ℕ) (r : Choice V) → r.place ≡ q → r.value ≡ bound (optional meaning) τ H (i + 1) (put (places_of places) i q) →
-    Picked (optional meaning) (q + 1) (has_bit out) (λ x. bound (optional meaning) τ H (i + 1) (put (places_of places) i x)) q (bound (optional meaning) τ H (i + 1) (put (places_of places) i q)) → Picking meaning τ H places i out (q + 1) r
-moved {V} meaning out τ H places i q r e f p =
-    subst (λ (x : ℕ). Picked (optional meaning) (q + 1) (has_bit out) (λ y. bound (optional meaning) τ H (i + 1) (put (places_of places) i y)) x r.value) (sym e)
-    (subst (λ (v : Option V). Picked (optional meaning) (q + 1) (has_bit out) (λ y. bound (optional meaning) τ H (i + 1) (put (places_of places) i y)) q v) (sym f) p)
+-- the bound of a prefix with place q for stop i
+pub bound_joined : {M V : Type 0} (meaning : MeasureMeaning V) (laws : Laws meaning.nought meaning.joined meaning.before) (p : Prefix M V) (q : ℕ) → q < p.board.now.n →
+    IsBound meaning p q (both meaning.joined (rest_in meaning p.board.now.cells.now p.board.now.n (stops_of p.board.now.job.now) p.i (places_of p.places.now)) (here_in meaning p.board.now.cells.now p.board.now.n (stops_of p.board.now.job.now) p.i (places_of p.places.now) q))
+unfolding IsBound
+bound_joined meaning laws p q h τ H tables = let b = p.board.now in bound_is meaning laws b.cells.now b.n b.job.now τ H tables p.i (places_of p.places.now) q p.stop h p.placed

@@ -1,5 +1,5 @@
 -- The terms of a bound as the cells have them, and the choice of a place.
-use Rattle.std.specs.Prelude.{ℕ, ◌+◌, cond, List, length, Some, Option, ◌==◌, nat_lt}
+use Rattle.std.specs.Prelude.{◌≡◌, ℕ, ◌+◌, cond, List, length, Some, Option, ◌==◌, nat_lt}
 use Rattle.measures.specs.Optional.{both}
 use Rattle.measures.specs.Meaning.{MeasureMeaning}
 use Rattle.sets.specs.Sets.{has_bit}
@@ -10,9 +10,12 @@ use Rattle.trees.specs.Minima.{bound}
 use Rattle.trees.specs.Subspaces.{Picked}
 use Rattle.cells.specs.declared.cell.Cell.{Cell}
 use Rattle.cells.specs.Cells.{places_of}
+use Rattle.cells.specs.declared.places.Places.{Places}
 use Rattle.tables.specs.Tables.{own_in, hang_in}
-use Rattle.minima.specs.Tables.{parent_in, link_in, hanging_in}
+use Rattle.minima.specs.Tables.{parent_in, link_in, hanging_in, Tables}
+use Rattle.jobs.specs.Jobs.{stops_of}
 use Rattle.bounds.specs.declared.choice.Choice.{Choice}
+use Rattle.bounds.specs.declared.prefixes.Prefix.{Prefix}
 
 -- what stop s adds at place q where its parent stands at place p
 abbrev pub cost_in : {M V : Type 0} → MeasureMeaning V → List (Cell M V) → ℕ → List Stop → ℕ → ℕ → ℕ → Option V
@@ -32,5 +35,15 @@ abbrev pub here_in : {M V : Type 0} → MeasureMeaning V → List (Cell M V) →
 here_in meaning cells n stops i P q = both meaning.joined (cond (i == 0) (Some meaning.nought) (link_in cells n stops i (P (parent_in stops i)) q)) (both meaning.joined (own_in cells n i q) (hanging_in meaning cells n stops i q))
 
 -- of the places below k for stop i that are not excluded, the first whose bound is least
-abbrev pub Picking : {V : Type 0} → MeasureMeaning V → Task (Option V) → (ℕ → ℕ → Option V) → List ℕ → ℕ → ℕ → ℕ → Choice V → Type 0
+abbrev pub Picking : {V : Type 0} → MeasureMeaning V → Task (Option V) → (ℕ → ℕ → Option V) → Places → ℕ → ℕ → ℕ → Choice V → Type 0
 Picking meaning τ H places i excluded k r = Picked (optional meaning) k (has_bit excluded) (λ q. bound (optional meaning) τ H (i + 1) (put (places_of places) i q)) r.place r.value
+
+-- in every task that the cells of a prefix hold, v is the bound of the prefix with place q for stop i
+unfoldable pub IsBound : {M V : Type 0} → MeasureMeaning V → Prefix M V → ℕ → Option V → Type 0
+IsBound {M} {V} meaning p q v = (τ : Task (Option V)) (H : ℕ → ℕ → Option V) → Tables meaning p.board.now.cells.now p.board.now.n (stops_of p.board.now.job.now) τ H →
+    v ≡ bound (optional meaning) τ H (p.i + 1) (put (places_of p.places.now) p.i q)
+
+-- in every such task, r is the first of the places below k for stop i, of those not excluded, whose bound is least
+unfoldable pub Picks : {M V : Type 0} → MeasureMeaning V → Prefix M V → ℕ → ℕ → Choice V → Type 0
+Picks {M} {V} meaning p excluded k r = (τ : Task (Option V)) (H : ℕ → ℕ → Option V) → Tables meaning p.board.now.cells.now p.board.now.n (stops_of p.board.now.job.now) τ H →
+    Picking meaning τ H p.places.now p.i excluded k r

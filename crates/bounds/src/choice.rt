@@ -5,7 +5,7 @@ use cells::order::at_most;
 use measures::Measure;
 
 // A place for a stop, and the least score of a plan that has it, or none.
-// Tried as an `Option<Choice<V>>`: `first_plan` stayed open, whose entry needs places below n where no plan is, too.
+// No `Option<Choice<V>>`, which was tried: `first_plan` promises places below n where there is no plan, too.
 #[derive(Clone, Copy)]
 pub struct Choice<V> {
     pub place: u8,

@@ -1,4 +1,5 @@
 #![tactic(auto)]
 
 pub mod choice;
+mod joined;
 pub mod prefixes;

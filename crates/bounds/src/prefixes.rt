@@ -1,13 +1,10 @@
-ghost use Rattle.std.specs.Prelude.{◌≡◌, ℕ, ◌+◌, ◌<◌, ◌⊎◌, length, if◌then◌else◌, Some, Option, nat_eq};
+ghost use Rattle.std.specs.Prelude.{◌≡◌, ℕ, ◌+◌, ◌<◌, length, if◌then◌else◌, Some, nat_eq};
 ghost use Rattle.jobs.specs.Jobs.{stops_of};
-ghost use Rattle.measures.specs.Scales.{optional};
-ghost use Rattle.trees.specs.Tasks.{Task, put};
-ghost use Rattle.trees.specs.Minima.{bound};
 ghost use Rattle.cells.specs.Cells.{places_of};
-ghost use Rattle.minima.specs.Tables.{parent_in, link_in, Tables};
-ghost use Rattle.bounds.specs.Prefixes.{cost_in, term_in, rest_in, here_in, Picking};
 
 use crate::choice::Choice;
+use crate::joined::Joined;
+use cells::places::Places;
 use measures::Measure;
 use measures::optional::join_options;
 use minima::board::Board;
@@ -18,20 +15,23 @@ use sets::PlaceSet;
 #[derive(Drop)]
 pub struct Prefix<'a, M, V> {
     pub board: &'a Board<'a, M, V>,
-    pub places: &'a [u8; 12],
+    pub places: &'a Places,
     pub i: usize,
     pub ghost stop: { i < length (stops_of board.now.job.now) },
     pub ghost placed: { (t : ℕ) → t < i → places_of places.now t < board.now.n },
 }
 
 impl<'a, M: Measure> Prefix<'a, M, M::Value> {
+    ghost use Rattle.minima.specs.Tables.{parent_in, link_in};
+    ghost use Rattle.bounds.specs.Prefixes.{cost_in, term_in, rest_in, here_in, IsBound, Picks};
+
     // The place of a stop below stop i.
     fn place(&self, t: usize) -> usize
         requires { t < self.now.i }
         ensures value { result ≡ places_of self.now.places.now t }
         ensures below { result < self.now.board.now.n }
     {
-        usize::from(self.places[t])
+        self.places.at(t)
     }
 
     // The link of stop s, at most stop i, from its parent's place to place q; the root, which has none, adds nothing.
@@ -87,8 +87,8 @@ impl<'a, M: Measure> Prefix<'a, M, M::Value> {
         }
     }
 
-    // What all stops but stop i add.
-    fn rest(&self) -> Option<M::Value>
+    // What all stops but stop i add. By the stops' numbers, since the tables are read by them.
+    pub(crate) fn rest(&self) -> Option<M::Value>
         ensures { let b = self.now.board.now in result ≡ rest_in M.Measure.meaning b.cells.now b.n (stops_of b.job.now) self.now.i (places_of self.now.places.now) }
     {
         let mut sum = Some(M::ZERO);
@@ -99,7 +99,7 @@ impl<'a, M: Measure> Prefix<'a, M, M::Value> {
     }
 
     // What stop i and all below it add at place q at the least.
-    fn here(&self, q: usize) -> Option<M::Value>
+    pub(crate) fn here(&self, q: usize) -> Option<M::Value>
         requires { q < self.now.board.now.n }
         ensures { let b = self.now.board.now in result ≡ here_in M.Measure.meaning b.cells.now b.n (stops_of b.job.now) self.now.i (places_of self.now.places.now) q }
     {
@@ -107,74 +107,28 @@ impl<'a, M: Measure> Prefix<'a, M, M::Value> {
         join_options::<M>(link, self.board.best_value(self.i, q))
     }
 
-    // The bound of the prefix with place q for stop i, where `rest` is what all other stops add, joined once for all q.
-    fn bound_with(&self, rest: Option<M::Value>, q: usize) -> Option<M::Value>
-        requires { let b = self.now.board.now in (q < b.n) × (rest ≡ rest_in M.Measure.meaning b.cells.now b.n (stops_of b.job.now) self.now.i (places_of self.now.places.now)) }
-        ensures { let b = self.now.board.now in (τ : Task (Option M.Value)) (H : ℕ → ℕ → Option M.Value) → Tables M.Measure.meaning b.cells.now b.n (stops_of b.job.now) τ H →
-            result ≡ bound (optional M.Measure.meaning) τ H (self.now.i + 1) (put (places_of self.now.places.now) self.now.i q) }
-    {
-        let here = self.here(q);
-        join_options::<M>(rest, here)
-    }
-
     // The bound of the prefix with place q for stop i: the least score of the plans that have these places; none where
     // there is no such plan.
     pub fn bound(&self, q: usize) -> Option<M::Value>
         requires { q < self.now.board.now.n }
-        ensures { let b = self.now.board.now in (τ : Task (Option M.Value)) (H : ℕ → ℕ → Option M.Value) → Tables M.Measure.meaning b.cells.now b.n (stops_of b.job.now) τ H →
-            result ≡ bound (optional M.Measure.meaning) τ H (self.now.i + 1) (put (places_of self.now.places.now) self.now.i q) }
+        ensures { IsBound M.Measure.meaning self.now q result }
     {
-        self.bound_with(self.rest(), q)
-    }
-
-    // Place q as a choice for stop i, with its bound.
-    fn candidate(&self, rest: Option<M::Value>, q: usize) -> Choice<M::Value>
-        requires { let b = self.now.board.now in (q < b.n) × (rest ≡ rest_in M.Measure.meaning b.cells.now b.n (stops_of b.job.now) self.now.i (places_of self.now.places.now)) }
-        ensures place { result.place ≡ q }
-        ensures value { let b = self.now.board.now in (τ : Task (Option M.Value)) (H : ℕ → ℕ → Option M.Value) → Tables M.Measure.meaning b.cells.now b.n (stops_of b.job.now) τ H →
-            result.value ≡ bound (optional M.Measure.meaning) τ H (self.now.i + 1) (put (places_of self.now.places.now) self.now.i q) }
-    {
-        let value = self.bound_with(rest, q);
-        // A place is below n, at most 64: the cast loses nothing, and `u8::try_from` would bring an error that cannot come.
-        Choice {
-            place: q as u8,
-            value,
-        }
-    }
-
-    // One place more in the search for the first whose bound is least.
-    fn try_place(
-        &self,
-        excluded: PlaceSet,
-        rest: Option<M::Value>,
-        best: Choice<M::Value>,
-        q: usize,
-    ) -> Choice<M::Value>
-        requires { let b = self.now.board.now in (q < b.n) × (rest ≡ rest_in M.Measure.meaning b.cells.now b.n (stops_of b.job.now) self.now.i (places_of self.now.places.now)) }
-        ensures picks { let b = self.now.board.now in (τ : Task (Option M.Value)) (H : ℕ → ℕ → Option M.Value) → Tables M.Measure.meaning b.cells.now b.n (stops_of b.job.now) τ H →
-            Picking M.Measure.meaning τ H self.now.places.now self.now.i excluded.bits q best → Picking M.Measure.meaning τ H self.now.places.now self.now.i excluded.bits (q + 1) result }
-        ensures within { (result.place ≡ best.place) ⊎ (result.place ≡ q) }
-    {
-        if excluded.has(q) {
-            return best;
-        }
-        let next = self.candidate(rest, q);
-        best.or_lesser::<M>(next)
+        Joined::of(self).bound(q)
     }
 
     // The first place of stop i, of those not excluded, whose bound is least.
+    #[tactic(auto, using(crate::proofs::Picking::picks_none))]
     pub fn pick(&self, excluded: PlaceSet) -> Choice<M::Value>
-        ensures picks { let b = self.now.board.now in (τ : Task (Option M.Value)) (H : ℕ → ℕ → Option M.Value) → Tables M.Measure.meaning b.cells.now b.n (stops_of b.job.now) τ H →
-            Picking M.Measure.meaning τ H self.now.places.now self.now.i excluded.bits b.n result }
-        ensures within { let b = self.now.board.now in 0 < b.n → result.place < b.n }
+        ensures picks { Picks M.Measure.meaning self.now excluded.bits self.now.board.now.n result }
+        ensures within { 0 < self.now.board.now.n → result.place < self.now.board.now.n }
     {
-        let rest = self.rest();
+        let joined = Joined::of(self);
         let mut best: Choice<M::Value> = Choice {
             place: 0,
             value: None,
         };
         for q in 0..self.board.n {
-            best = self.try_place(excluded, rest, best, q);
+            best = joined.try_place(excluded, best, q);
         }
         best
     }
