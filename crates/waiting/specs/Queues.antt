@@ -13,6 +13,7 @@ use Rattle.trees.specs.Rounds.{Partition, Chosen}
 use Rattle.cells.specs.declared.cell.Cell.{Cell}
 use Rattle.cells.specs.declared.cell.Entry.{Entry}
 use Rattle.cells.specs.Cells.{places_of, space_of}
+use Rattle.cells.specs.declared.places.Places.{Places}
 use Rattle.tables.specs.Tables.{entry_in, Kept}
 use Rattle.minima.specs.Tables.{Ready, Tables}
 
@@ -25,7 +26,7 @@ abbrev pub row_start : ℕ → ℕ → ℕ → ℕ
 row_start m k row = k + row * (m - 1)
 
 -- the entry holds the plans that leave the places `from` at stop t for the first time
-pub record Part {V : Type 0} (from : List ℕ) (t : ℕ) (e : Entry V) : Type 0 where
+pub record Part {V : Type 0} (from : Places) (t : ℕ) (e : Entry V) : Type 0 where
   pub depth : e.depth ≡ t
   pub same : Same t (places_of from) (places_of e.places)
   pub excluded : (r : ℕ) → has_bit e.excluded.bits r ≡ (r == places_of from t)

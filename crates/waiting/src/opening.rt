@@ -10,6 +10,7 @@ ghost use Rattle.waiting.specs.Queues.{waiting_in, NoSpace, Queue, FreeHeads};
 use crate::queue::Waiting;
 use bounds::prefixes::Prefix;
 use cells::cell::{Cell, Entry};
+use cells::places::Places;
 use measures::Measure;
 use minima::board::Board;
 use search::firsts::first_plan;
@@ -42,7 +43,7 @@ impl<'a> Waiting<'a> {
         let m = self.job.len();
         let to = self.base + self.k * m;
         clear(cells, self.base, to, m);
-        let places = [0; 12];
+        let places = Places::zero();
         let board = Board {
             cells,
             n: self.n,

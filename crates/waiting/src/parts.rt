@@ -12,6 +12,7 @@ ghost use Rattle.sets.specs.Placements.{Same};
 
 use bounds::prefixes::Prefix;
 use cells::cell::{Cell, Entry};
+use cells::places::Places;
 use jobs::job::Job;
 use measures::Measure;
 use minima::board::Board;
@@ -20,13 +21,13 @@ use sets::PlaceSet;
 use tables::access::set_entry;
 
 // The part of a subspace with the plans that leave its first plan at stop t, t being behind its depth.
-fn part_at<M: Measure>(board: &Board<'_, M, M::Value>, from: &[u8; 12], t: usize) -> Entry<M::Value>
+fn part_at<M: Measure>(board: &Board<'_, M, M::Value>, from: &Places, t: usize) -> Entry<M::Value>
     requires { let b = board.now in let m = length (stops_of b.job.now) in (t < m) × ((s : ℕ) → s < m → places_of from.now s < b.n) }
     ensures part { Part from.now t result }
     ensures safe { Safe board.now.n (length (stops_of board.now.job.now)) result }
     ensures first { let b = board.now in (τ : Task (Option M.Value)) (H : ℕ → ℕ → Option M.Value) → Tables M.Measure.meaning b.cells.now b.n (stops_of b.job.now) τ H → First (optional M.Measure.meaning) τ H (space_of result) }
 {
-    let excluded = PlaceSet::empty().with(usize::from(from[t]));
+    let excluded = PlaceSet::empty().with(from.at(t));
     let prefix = Prefix {
         board: &*board,
         places: &*from,
@@ -49,7 +50,7 @@ pub fn split_rest<M: Measure>(
     n: usize,
     job: &Job,
     at: usize,
-    from: &[u8; 12],
+    from: &Places,
     depth: usize,
 )
     requires { Ready cells.old n (stops_of job.now) × (depth < length (stops_of job.now)) × ((t : ℕ) → t < length (stops_of job.now) → places_of from.now t < n) × (n * n + length (stops_of job.now) * n ≤ at) × (at + (length (stops_of job.now) - (depth + 1)) ≤ length cells.old) }
@@ -72,7 +73,7 @@ fn excluded_here<V: Copy>(old: &Entry<V>) -> PlaceSet
     requires { old.now.depth < 12 }
     ensures { (q : ℕ) → has_bit result.bits q ≡ (has_bit old.now.excluded.bits q || (q == places_of old.now.places old.now.depth && nat_lt (places_of old.now.places old.now.depth) 64)) }
 {
-    old.excluded.with(usize::from(old.places[old.depth]))
+    old.excluded.with(old.places.at(old.depth))
 }
 
 // The part of a subspace with the plans that leave its first plan at its own depth.
