@@ -202,7 +202,7 @@ fn print_plan<M: Measure>(
     let line = Line {
         number: rows + 1,
         score: Score(M::show(plan.score.unwrap())),
-        places: &plan.places[0..order.job.len()],
+        places: plan.places.first(order.job.len()),
     };
     println!(rt; "{line}")
 }

@@ -7,6 +7,7 @@ ghost use Rattle.leaders.specs.Leaders.{Rows};
 
 use cells::cell::{Cell, Entry};
 use cells::order::entry_at_or_before;
+use cells::places::Places;
 use jobs::job::Job;
 use leaders::advancing::advance;
 use leaders::rows::find_head;
@@ -89,9 +90,10 @@ fn laid_out<M: Measure>(cells: &[Cell<M, M::Value>], job: &Job, q: usize) -> Ent
     );
     let mut entry = Entry::without_plan(0);
     entry.score = join_options::<M>(first, join_options::<M>(second, third));
-    entry.places[0] = a as u8;
-    entry.places[1] = b as u8;
-    entry.places[2] = c as u8;
+    entry.places = Places::zero()
+        .with(0, a as u8)
+        .with(1, b as u8)
+        .with(2, c as u8);
     entry
 }
 
