@@ -14,7 +14,7 @@ use sets::PlaceSet;
 pub(crate) struct Joined<'p, 'a, M: Measure> {
     prefix: &'p Prefix<'a, M, M::Value>,
     rest: Option<M::Value>,
-    ghost joined: { let p = prefix.now in let b = p.board.now in rest ≡ rest_in M.Measure.meaning b.cells.now b.n (stops_of b.job.now) p.i (places_of p.places.now) },
+    ghost joined: { let p = prefix.now in rest ≡ rest_in M.Measure.meaning p.board.now p.i (places_of p.places.now) },
 }
 
 impl<'p, 'a, M: Measure> Joined<'p, 'a, M> {

@@ -50,8 +50,8 @@ impl<'a, M: Measure> Prefix<'a, M, M::Value> {
     // What a stop below stop i adds at its place: its own value and its link's.
     fn cost(&self, s: usize) -> Option<M::Value>
         requires { s < self.now.i }
-        ensures { let b = self.now.board.now in let stops = stops_of b.job.now in let places = places_of self.now.places.now in
-            result ≡ cost_in M.Measure.meaning b.cells.now b.n stops s (places (parent_in stops s)) (places s) }
+        ensures { let places = places_of self.now.places.now in
+            result ≡ cost_in M.Measure.meaning self.now.board.now s (places (parent_in (stops_of self.now.board.now.job.now) s)) (places s) }
     {
         let q = self.place(s);
         let link = self.link_to(s, q);
@@ -61,7 +61,7 @@ impl<'a, M: Measure> Prefix<'a, M, M::Value> {
     // What stop s adds: its cost where it has a place, or the least value of it and all below it.
     fn term(&self, s: usize) -> Option<M::Value>
         requires { s < length (stops_of self.now.board.now.job.now) }
-        ensures { let b = self.now.board.now in result ≡ term_in M.Measure.meaning b.cells.now b.n (stops_of b.job.now) self.now.i (places_of self.now.places.now) s }
+        ensures { result ≡ term_in M.Measure.meaning self.now.board.now self.now.i (places_of self.now.places.now) s }
     {
         if s < self.i {
             return self.cost(s);
@@ -78,7 +78,7 @@ impl<'a, M: Measure> Prefix<'a, M, M::Value> {
     // What stop s adds, nothing where it is stop i.
     fn other(&self, s: usize) -> Option<M::Value>
         requires { s < length (stops_of self.now.board.now.job.now) }
-        ensures { let b = self.now.board.now in result ≡ (if nat_eq s self.now.i then Some M.Measure.meaning.nought else term_in M.Measure.meaning b.cells.now b.n (stops_of b.job.now) self.now.i (places_of self.now.places.now) s) }
+        ensures { result ≡ (if nat_eq s self.now.i then Some M.Measure.meaning.nought else term_in M.Measure.meaning self.now.board.now self.now.i (places_of self.now.places.now) s) }
     {
         if s == self.i {
             Some(M::ZERO)
@@ -89,7 +89,7 @@ impl<'a, M: Measure> Prefix<'a, M, M::Value> {
 
     // What all stops but stop i add. By the stops' numbers, since the tables are read by them.
     pub(crate) fn rest(&self) -> Option<M::Value>
-        ensures { let b = self.now.board.now in result ≡ rest_in M.Measure.meaning b.cells.now b.n (stops_of b.job.now) self.now.i (places_of self.now.places.now) }
+        ensures { result ≡ rest_in M.Measure.meaning self.now.board.now self.now.i (places_of self.now.places.now) }
     {
         let mut sum = Some(M::ZERO);
         for s in 0..self.board.job.len() {
@@ -101,7 +101,7 @@ impl<'a, M: Measure> Prefix<'a, M, M::Value> {
     // What stop i and all below it add at place q at the least.
     pub(crate) fn here(&self, q: usize) -> Option<M::Value>
         requires { q < self.now.board.now.n }
-        ensures { let b = self.now.board.now in result ≡ here_in M.Measure.meaning b.cells.now b.n (stops_of b.job.now) self.now.i (places_of self.now.places.now) q }
+        ensures { result ≡ here_in M.Measure.meaning self.now.board.now self.now.i (places_of self.now.places.now) q }
     {
         let link = self.link_to(self.i, q);
         join_options::<M>(link, self.board.best_value(self.i, q))
