@@ -35,6 +35,7 @@ impl<'a, M: Measure> Prefix<'a, M, M::Value> {
     }
 
     // The link of stop s, at most stop i, from its parent's place to place q; the root, which has none, adds nothing.
+    #[tactic(auto, using(jobs::proofs::Ties::both_below))]
     fn link_to(&self, s: usize, q: usize) -> Option<M::Value>
         requires { (s < self.now.i + 1) × (q < self.now.board.now.n) }
         ensures { let b = self.now.board.now in let stops = stops_of b.job.now in
@@ -88,6 +89,7 @@ impl<'a, M: Measure> Prefix<'a, M, M::Value> {
     }
 
     // What all stops but stop i add. By the stops' numbers, since the tables are read by them.
+    #[tactic(auto, using(trees::proofs::Bounds::total_none, trees::proofs::Bounds::total_more))]
     pub(crate) fn rest(&self) -> Option<M::Value>
         ensures { result ≡ rest_in M.Measure.meaning self.now.board.now self.now.i (places_of self.now.places.now) }
     {
