@@ -21,6 +21,7 @@ fn with_rest<M: Measure>(board: &Board<'_, M, M::Value>, from: Places, depth: us
 {
     let mut places = from;
     for i in depth + 1..board.job.len() {
+        // `&*board`, since with `board` alone, which was tried, no proof of the loop is made
         let prefix = Prefix {
             board: &*board,
             places: &places,
