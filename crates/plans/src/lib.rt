@@ -6,6 +6,8 @@ use measures::Measure;
 
 // What holds of walks, rides, plans and their order under every measure. These functions do nothing: each is
 // there for the laws in its contract.
+// Each statement has one line of proof in proofs/: `using` names a lemma to `grind` alone, which does not find a statement of
+// this kind (tried), and only an answer can name it to `search`.
 
 // A ride exists exactly where a walk does, and it is one value.
 pub fn ride_laws<M: Measure>()

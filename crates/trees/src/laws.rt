@@ -5,6 +5,8 @@ use measures::Measure;
 
 // What holds of every tree of stops, for every measure. These functions do nothing: each is there for the one
 // statement in its contract.
+// Each statement has one line of proof in proofs/: `using` names a lemma to `grind` alone, which does not find a statement of
+// this kind (tried), and only an answer can name it to `search`.
 
 // The bound of a prefix is the least score of a plan that begins with it.
 pub fn bound_is_least<M: Measure>()
