@@ -48,22 +48,13 @@ impl<'a, M: Measure> PairTable<'a, M, M::Value> {
         }
     }
 
-    // The rounds of the places below `end`.
-    fn relax_rounds(&mut self, end: usize)
-        requires { end ≤ self.old.n }
-        ensures rides { (s : StreetMeaning) → FullBelow M.Measure.meaning s 0 self.old → FullBelow M.Measure.meaning s end self.new }
-        ensures kept { RidesChanged self.old self.new }
-    {
-        for k in 0..end {
-            self.relax_round(k);
-        }
-    }
-
     // From the legs alone to the best by all places: about n * n * n joins.
     pub(crate) fn close(&mut self)
         ensures rides { (s : StreetMeaning) → FullBelow M.Measure.meaning s 0 self.old → FullBelow M.Measure.meaning s self.old.n self.new }
         ensures kept { RidesChanged self.old self.new }
     {
-        self.relax_rounds(self.n);
+        for k in 0..self.places() {
+            self.relax_round(k);
+        }
     }
 }
