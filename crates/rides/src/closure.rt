@@ -43,7 +43,7 @@ impl<'a, M: Measure> PairTable<'a, M, M::Value> {
         ensures rides { (s : StreetMeaning) → FullBelow M.Measure.meaning s k self.old → FullBelow M.Measure.meaning s (k + 1) self.new }
         ensures kept { RidesChanged self.old self.new }
     {
-        for i in 0..self.n {
+        for i in 0..self.places() {
             self.relax_row(k, i);
         }
     }
