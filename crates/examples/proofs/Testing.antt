@@ -14,7 +14,12 @@ use Rattle.streets.specs.Sounds.{list_sound}
 use Rattle.plans.specs.Walks.{direct, RideOf}
 use Rattle.plans.specs.Job.{JobMeaning, Tree}
 use Rattle.plans.specs.Plans.{Plan, Score, Before, by_score, by_places}
-use Rattle.plans.specs.Computed.{ride_from, score_from}
+use Rattle.plans.specs.Computed.{ride_from, score_from, ride_over}
+use Rattle.measures.specs.Time.{time_of}
+use Rattle.measures.specs.Longest.{longest_of}
+use Rattle.measures.specs.Climb.{climb_of}
+use Rattle.measures.specs.Scales.{total}
+use Rattle.examples.specs.Table.{table}
 use Rattle.plans.specs.Laws.{ScoreLaws}
 use Rattle.plans.proofs.Rides.{ride_laws_lem}
 use Rattle.plans.proofs.Scores.{score_laws_lem}
@@ -237,9 +242,7 @@ says (plans_are w t j es) p =
     let q = and_parts (tree_like j) (listed (meaning_by w) (street t) (job_of j) es) p in
     listed_says (meaning_by w) (laws_by w) (street t) (job_of j) (list_sound t.kinds t.legs) (tree_is j q.0) es q.1
 
--- one test over a whole table, turned into what each of its examples says
-abbrev pub passes : List Case → Bool
-passes cs = list_all test cs
-
-pub all_say : (cs : List Case) → passes cs ≡ true → All Says cs
-all_say cs t = every_all test Says says cs t
+-- one test over the whole table, which computes, turned into what each of its examples says
+pub table_says : All Says table
+unfolding time_of longest_of climb_of ride_over total
+table_says = every_all test Says says table refl
