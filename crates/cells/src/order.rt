@@ -26,6 +26,7 @@ pub fn lesser<M: Measure>(a: Option<M::Value>, b: Option<M::Value>) -> Option<M:
 }
 
 // Whether the first plan of one subspace is at or before that of another in the order of plans.
+#[tactic(auto, using(crate::proofs::Listed::listed))]
 pub fn entry_at_or_before<M: Measure>(a: &Entry<M::Value>, b: &Entry<M::Value>) -> bool
     ensures { result ≡ entry_before M.Measure.meaning.before a.now b.now }
 {
