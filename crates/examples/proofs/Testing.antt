@@ -1,6 +1,10 @@
 -- A test of an example that can be computed, and that what passes it says what it should.
-use Rattle.std.proofs.Common.{◌≡◌, ℕ, zero, suc, ◌+◌, ◌<◌, Bool, true, false, not, ◌&&◌, ◌||◌, eqb, ltb, leb, List, [], ◌∷◌, ◌++◌, map, length, get_or, Some, None, Option, sym, refl, ap, ◌∙◌, subst, ap₂, inl, inr, ⊎_elim, arith}
+use Rattle.std.proofs.Common.{◌≡◌, ℕ, zero, suc, ◌+◌, ◌<◌, Bool, true, false, not, ◌&&◌, ◌||◌, eqb, ltb, leb, List, [], ◌∷◌, ◌++◌, map, length, get_or, Some, None, Option, sym, refl, ap, ◌∙◌, subst, inl, inr, ⊎_elim, arith}
 use Rattle.std.proofs.lemmas.Bool.{false≢true, cases_lt, and_parts, or_cases, eqb-true, ltb-true, leb-true, not-true}
+use Rattle.std.specs.List.{list_all, list_any}
+use Rattle.std.specs.Str.{bytes_eq}
+use Rattle.std.proofs.lemmas.List.Folds.{list_all-append, list_all-map}
+use Rattle.std.proofs.lemmas.Slice.Eq.{bytes_eq-Decides}
 use Rattle.measures.specs.Meaning.{MeasureMeaning}
 use Rattle.measures.specs.Laws.{Laws}
 use Rattle.measures.specs.Numbers.{time_laws, longest_laws}
@@ -10,7 +14,12 @@ use Rattle.streets.specs.Sounds.{list_sound}
 use Rattle.plans.specs.Walks.{direct, RideOf}
 use Rattle.plans.specs.Job.{JobMeaning, Tree}
 use Rattle.plans.specs.Plans.{Plan, Score, Before, by_score, by_places}
-use Rattle.plans.specs.Computed.{ride_from, score_from}
+use Rattle.plans.specs.Computed.{ride_from, score_from, ride_over}
+use Rattle.measures.specs.Time.{time_of}
+use Rattle.measures.specs.Longest.{longest_of}
+use Rattle.measures.specs.Climb.{climb_of}
+use Rattle.measures.specs.Scales.{total}
+use Rattle.examples.specs.Table.{table}
 use Rattle.plans.specs.Laws.{ScoreLaws}
 use Rattle.plans.proofs.Rides.{ride_laws_lem}
 use Rattle.plans.proofs.Scores.{score_laws_lem}
@@ -18,21 +27,13 @@ use Rattle.examples.specs.Cases.{Measured, by_time, by_longest, by_climb, ValueB
 use Rattle.sets.specs.Placements.{Same, Earlier}
 
 -- lists
-abbrev every : {X : Type 0} → (X → Bool) → List X → Bool
-every test [] = true
-every test (x ∷ xs) = test x && every test xs
-
-every_all : {X : Type 0} (test : X → Bool) (holds : X → Type 0) → ((x : X) → test x ≡ true → holds x) → (xs : List X) → every test xs ≡ true → All holds xs
+every_all : {X : Type 0} (test : X → Bool) (holds : X → Type 0) → ((x : X) → test x ≡ true → holds x) → (xs : List X) → list_all test xs ≡ true → All holds xs
 every_all test holds turn [] t = tt
-every_all test holds turn (x ∷ xs) t = let p = and_parts (test x) (every test xs) t in (turn x p.0, every_all test holds turn xs p.1)
+every_all test holds turn (x ∷ xs) t = let p = and_parts (test x) (list_all test xs) t in (turn x p.0, every_all test holds turn xs p.1)
 
-abbrev any : {X : Type 0} → (X → Bool) → List X → Bool
-any test [] = false
-any test (x ∷ xs) = test x || any test xs
-
-any_some : {X : Type 0} (test : X → Bool) (holds : X → Type 0) → ((x : X) → test x ≡ true → holds x) → (xs : List X) → any test xs ≡ true → Some_of holds xs
+any_some : {X : Type 0} (test : X → Bool) (holds : X → Type 0) → ((x : X) → test x ≡ true → holds x) → (xs : List X) → list_any test xs ≡ true → Some_of holds xs
 any_some test holds turn [] t = absurd (false≢true t)
-any_some test holds turn (x ∷ xs) t = ⊎_elim (λ h. inl (turn x h)) (λ h. inr (any_some test holds turn xs h)) (or_cases (test x) (any test xs) t)
+any_some test holds turn (x ∷ xs) t = ⊎_elim (λ h. inl (turn x h)) (λ h. inr (any_some test holds turn xs h)) (or_cases (test x) (list_any test xs) t)
 
 abbrev chain : {X : Type 0} → (X → X → Bool) → List X → Bool
 chain test [] = true
@@ -47,18 +48,6 @@ chain_chained test known related turn (x ∷ (y ∷ ys)) a t =
     let p = and_parts (test x y) (chain test (y ∷ ys)) t in
     (turn x y a.0 a.1.0 p.0, chain_chained test known related turn (y ∷ ys) a.1 p.1)
 
-abbrev alike : List ℕ → List ℕ → Bool
-alike [] [] = true
-alike [] (y ∷ ys) = false
-alike (x ∷ xs) [] = false
-alike (x ∷ xs) (y ∷ ys) = eqb x y && alike xs ys
-
-alike_same : (xs ys : List ℕ) → alike xs ys ≡ true → xs ≡ ys
-alike_same [] [] t = refl
-alike_same [] (y ∷ ys) t = absurd (false≢true t)
-alike_same (x ∷ xs) [] t = absurd (false≢true t)
-alike_same (x ∷ xs) (y ∷ ys) t = let p = and_parts (eqb x y) (alike xs ys) t in ap₂ ◌∷◌ (eqb-true x y p.0) (alike_same xs ys p.1)
-
 abbrev at : List ℕ → ℕ → ℕ
 at ps i = get_or ps i 0
 
@@ -71,28 +60,17 @@ abbrev layouts : ℕ → ℕ → List (List ℕ)
 layouts n zero = [] ∷ []
 layouts n (suc k) = spread n (layouts n k)
 
-every_append : {X : Type 0} (test : X → Bool) (xs ys : List X) → every test (xs ++ ys) ≡ true → (every test xs ≡ true) × (every test ys ≡ true)
-every_append test [] ys t = (refl, t)
-every_append test (x ∷ xs) ys t =
-    let p = and_parts (test x) (every test (xs ++ ys)) t in
-    let q = every_append test xs ys p.1 in
-    (ap₂ ◌&&◌ p.0 q.0, q.1)
-
-every_map : (test : List ℕ → Bool) (p : ℕ) (xs : List (List ℕ)) → every test (map (λ ps. p ∷ ps) xs) ≡ true → every (λ ps. test (p ∷ ps)) xs ≡ true
-every_map test p [] t = refl
-every_map test p (x ∷ xs) t = let q = and_parts (test (p ∷ x)) (every test (map (λ ps. p ∷ ps) xs)) t in ap₂ ◌&&◌ q.0 (every_map test p xs q.1)
-
-spread_at : (test : List ℕ → Bool) (n p : ℕ) (xs : List (List ℕ)) → p < n → every test (spread n xs) ≡ true → every (λ ps. test (p ∷ ps)) xs ≡ true
+spread_at : (test : List ℕ → Bool) (n p : ℕ) (xs : List (List ℕ)) → p < n → list_all test (spread n xs) ≡ true → list_all (λ ps. test (p ∷ ps)) xs ≡ true
 spread_at test zero p xs l t = absurd (omega arith)
 spread_at test (suc q) p xs l t =
-    let parts = every_append test (spread q xs) (map (λ ps. q ∷ ps) xs) t in
+    let parts = and_parts _ _ (sym (list_all-append test (spread q xs) (map (λ ps. q ∷ ps) xs)) ∙ t) in
     ⊎_elim
     (λ below. spread_at test q p xs below parts.0)
-    (λ not-below. let e : q ≡ p = omega arith in subst (λ (r : ℕ). every (λ ps. test (r ∷ ps)) xs ≡ true) e (every_map test q xs parts.1))
+    (λ not-below. let e : q ≡ p = omega arith in subst (λ (r : ℕ). list_all (λ ps. test (r ∷ ps)) xs ≡ true) e (sym (list_all-map test (λ ps. q ∷ ps) xs) ∙ parts.1))
     (cases_lt p q)
 
 -- each way to place the stops is among them
-laid : (test : List ℕ → Bool) (n k : ℕ) (P : ℕ → ℕ) → ((i : ℕ) → i < k → P i < n) → every test (layouts n k) ≡ true → (ps : List ℕ) × Same k (at ps) P × (test ps ≡ true)
+laid : (test : List ℕ → Bool) (n k : ℕ) (P : ℕ → ℕ) → ((i : ℕ) → i < k → P i < n) → list_all test (layouts n k) ≡ true → (ps : List ℕ) × Same k (at ps) P × (test ps ≡ true)
 laid test n zero P placed t = ([], (λ i l. absurd (omega arith)), (and_parts (test []) true t).0)
 laid test n (suc k) P placed t =
     let rest = laid (λ ps. test (P 0 ∷ ps)) n k (λ i. P (suc i)) (λ i l. placed (suc i) (omega arith)) (spread_at test n (P 0) (layouts n k) (placed 0 (omega arith)) t) in
@@ -145,10 +123,10 @@ module _ {V : Type 0} (m : MeasureMeaning V) where
     follows e f = not (m.before f.score e.score) || (equal e.score f.score && sooner e.places f.places)
 
     abbrev covered : List (Entry V) → List ℕ → Bool
-    covered es ps = missing (score_from m s j (at ps)) || any (λ e. alike e.places ps) es
+    covered es ps = missing (score_from m s j (at ps)) || list_any (λ e. bytes_eq e.places ps) es
 
     abbrev listed : List (Entry V) → Bool
-    listed es = every scored es && (chain follows es && every (covered es) (layouts s.places j.stops))
+    listed es = list_all scored es && (chain follows es && list_all (covered es) (layouts s.places j.stops))
 
 -- what they come to
 module _ {V : Type 0} (m : MeasureMeaning V) (laws : Laws m.nought m.joined m.before) where
@@ -185,11 +163,11 @@ module _ {V : Type 0} (m : MeasureMeaning V) (laws : Laws m.nought m.joined m.be
         (or_cases (not (m.before f.score e.score)) (equal m e.score f.score && sooner e.places f.places) t)
 
     -- a plan is at one of the entries
-    found : (es : List (Entry V)) (P : ℕ → ℕ) → Plan m s j P → every (covered m s j es) (layouts s.places j.stops) ≡ true → Some_of (λ e. Same j.stops (places_of e) P) es
+    found : (es : List (Entry V)) (P : ℕ → ℕ) → Plan m s j P → list_all (covered m s j es) (layouts s.places j.stops) ≡ true → Some_of (λ e. Same j.stops (places_of e) P) es
     found es P plan t = ⊎_elim
         (λ h. absurd (false≢true (sym (ap (missing m) there) ∙ h)))
-        (λ h. any_some _ _ (λ e u i l. ap (λ (xs : List ℕ). get_or xs i 0) (alike_same e.places ps u) ∙ same i l) es h)
-        (or_cases (missing m (score_from m s j (at ps))) (any (λ e. alike e.places ps) es) lay.2)
+        (λ h. any_some _ _ (λ e u i l. ap (λ (xs : List ℕ). get_or xs i 0) ((bytes_eq-Decides e.places ps).0 u) ∙ same i l) es h)
+        (or_cases (missing m (score_from m s j (at ps))) (list_any (λ e. bytes_eq e.places ps) es) lay.2)
       where
         lay : (ps : List ℕ) × Same j.stops (at ps) P × (covered m s j es ps ≡ true)
         lay = laid (covered m s j es) s.places j.stops P plan.placed t
@@ -209,8 +187,8 @@ module _ {V : Type 0} (m : MeasureMeaning V) (laws : Laws m.nought m.joined m.be
     listed_says : (es : List (Entry V)) → listed m s j es ≡ true → InOrder m s j es
     unfolding Known
     listed_says es t =
-        let p = and_parts (every (scored m s j) es) (chain (follows m s j) es && every (covered m s j es) (layouts s.places j.stops)) t in
-        let q = and_parts (chain (follows m s j) es) (every (covered m s j es) (layouts s.places j.stops)) p.1 in
+        let p = and_parts (list_all (scored m s j) es) (chain (follows m s j) es && list_all (covered m s j es) (layouts s.places j.stops)) t in
+        let q = and_parts (chain (follows m s j) es) (list_all (covered m s j es) (layouts s.places j.stops)) p.1 in
         record {
           plans = every_all (scored m s j) _ (λ e u. (known e u).1) es p.0;
           order = chain_chained (follows m s j) Known _ comes_before es (every_all (scored m s j) Known known es p.0) q.0;
@@ -264,9 +242,7 @@ says (plans_are w t j es) p =
     let q = and_parts (tree_like j) (listed (meaning_by w) (street t) (job_of j) es) p in
     listed_says (meaning_by w) (laws_by w) (street t) (job_of j) (list_sound t.kinds t.legs) (tree_is j q.0) es q.1
 
--- one test over a whole table, turned into what each of its examples says
-abbrev pub passes : List Case → Bool
-passes cs = every test cs
-
-pub all_say : (cs : List Case) → passes cs ≡ true → All Says cs
-all_say cs t = every_all test Says says cs t
+-- one test over the whole table, which computes, turned into what each of its examples says
+pub table_says : All Says table
+unfolding time_of longest_of climb_of ride_over total
+table_says = every_all test Says says table refl

@@ -1,7 +1,7 @@
 #![tactic(auto)]
 
 ghost use Rattle.std.specs.Prelude.{◌≡◌};
-ghost use Rattle.measures.specs.Laws.{Lawful};
+ghost use Rattle.measures.specs.Laws.{Laws, Lawful};
 ghost use Rattle.measures.specs.Meaning.{MeasureMeaning};
 
 pub mod climb;
@@ -46,3 +46,8 @@ pub trait Measure {
 
     ghost zero_is: { ZERO ≡ meaning.nought };
 }
+
+// The seven laws of a measure, as the fact of a call: a function whose contract rests on them calls it.
+pub fn laws<M: Measure>()
+    ensures { let m = M.Measure.meaning in Laws m.nought m.joined m.before }
+{}

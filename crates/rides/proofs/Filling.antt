@@ -20,7 +20,7 @@ table_fills {M} {V} m laws s sound n old new made started closed e room a b begu
       subst (λ (k : ℕ). Started m s k k 0 started.cells.now) sn begun,
       subst (λ (x : List (Cell M V)). Behind n x started.cells.now) b (subst (λ (k : ℕ). Behind k made.cells.now started.cells.now) a p.1),
       subst (λ (k : ℕ). RidesOnly k started.cells.now closed.cells.now) sn q.1,
-      subst (λ (k : ℕ). Full m s n k (ride_in closed.cells.now n)) sn (subst (λ (x : ℕ). Full m s x started.n (ride_in closed.cells.now x)) (q.0.0 ∙ sn) (rounds (record { best = start_full m s started.n laws started.cells.now begun })).best),
+      subst (λ (k : ℕ). Full m s n k (ride_in closed.cells.now n)) sn (subst (λ (x : ℕ). Full m s x started.n (ride_in closed.cells.now x)) (q.0.0 ∙ sn) (rounds (start_full m s started.n laws started.cells.now begun))),
     ))
   where
     sn : started.n ≡ n

@@ -1,5 +1,4 @@
 pub mod CellWrites
-pub mod Changes
 pub mod Filling
 pub mod Lesser
 pub mod Rounding

@@ -90,10 +90,10 @@ module _ {V : Type 0} (m : MeasureMeaning V) (laws : Laws m.nought m.joined m.be
 
   pub round_start : (D : ℕ → ℕ → Option V) → Full m s n k D → Mid m s n k 0 0 D
   round_start D full = record {
-    some_walk = λ a b ha hb x e. widen m laws s ((full a b ha hb).some_walk x e);
-    none_below = λ a b ha hb v t. (full a b ha hb).none_below v t;
+    some_walk = λ a b ha hb x e. widen m laws s ((full.best a b ha hb).some_walk x e);
+    none_below = λ a b ha hb v t. (full.best a b ha hb).none_below v t;
     done_below = λ a b ha hb past. absurd (none_passed a b past);
   }
 
   pub round_end : (D : ℕ → ℕ → Option V) → Mid m s n k n 0 D → Full m s n (k + 1) D
-  round_end D mid a b ha hb = record { some_walk = mid.some_walk a b ha hb; none_below = mid.done_below a b ha hb (inl ha) }
+  round_end D mid = record { best = λ a b ha hb. record { some_walk = mid.some_walk a b ha hb; none_below = mid.done_below a b ha hb (inl ha) } }

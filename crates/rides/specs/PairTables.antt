@@ -23,8 +23,8 @@ abbrev pub StartedTo : {M V : Type 0} → MeasureMeaning V → StreetMeaning →
 StartedTo m s i j t = Started m s t.n i j t.cells.now
 
 -- every ride is the best by places below k
-pub record FullBelow {M V : Type 0} (m : MeasureMeaning V) (s : StreetMeaning) (k : ℕ) (t : PairTable M V) : Type 0 where
-  pub best : Full m s t.n k (ride_in t.cells.now t.n)
+abbrev pub FullBelow : {M V : Type 0} → MeasureMeaning V → StreetMeaning → ℕ → PairTable M V → Type 0
+FullBelow m s k t = Full m s t.n k (ride_in t.cells.now t.n)
 
 -- round k has come to the pair (i, j)
 abbrev pub RoundAt : {M V : Type 0} → MeasureMeaning V → StreetMeaning → ℕ → ℕ → ℕ → PairTable M V → Type 0

@@ -1,5 +1,5 @@
 -- How the table is filled: what it holds before, within and after a round of the closure.
-use Rattle.std.specs.Prelude.{◌≡◌, ℕ, ◌+◌, ◌*◌, ◌<◌, ◌⊎◌, List, drop, Some, Option, ◌≢◌}
+use Rattle.std.specs.Prelude.{◌≡◌, ℕ, ◌+◌, ◌*◌, ◌<◌, ◌⊎◌, List, map, drop, Some, Option, ◌≢◌}
 use Rattle.measures.specs.Meaning.{MeasureMeaning}
 use Rattle.streets.specs.Meaning.{StreetMeaning}
 use Rattle.plans.specs.Walks.{direct}
@@ -19,9 +19,9 @@ SameLegs n old new = (a b : ℕ) → leg_in new n a b ≡ leg_in old n a b
 abbrev pub SameKinds : {M V : Type 0} → ℕ → List (Cell M V) → List (Cell M V) → Type 0
 SameKinds n old new = (p : ℕ) → kind_in new n p ≡ kind_in old n p
 
--- only rides have changed: the legs, the kinds and the cells behind the table are as they were
+-- only rides have changed: the leg and the kind of each cell and the cells behind the table are as they were
 abbrev pub RidesOnly : {M V : Type 0} → ℕ → List (Cell M V) → List (Cell M V) → Type 0
-RidesOnly n old new = SameLegs n old new × SameKinds n old new × Behind n old new
+RidesOnly {M} {V} n old new = (map (λ (c : Cell M V). c.leg) new ≡ map (λ (c : Cell M V). c.leg) old) × (map (λ (c : Cell M V). c.kind) new ≡ map (λ (c : Cell M V). c.kind) old) × Behind n old new
 
 -- in a view of cells the pair (i, j) has v, and every other pair what it had
 pub record Written {M V X : Type 0} (view : List (Cell M V) → ℕ → ℕ → ℕ → X) (n i j : ℕ) (v : X) (old new : List (Cell M V)) : Type 0 where
@@ -46,8 +46,8 @@ pub record Started {M V : Type 0} (m : MeasureMeaning V) (s : StreetMeaning) (n 
   pub kinds : (p : ℕ) → p < i → kind_in cells n p ≡ s.kind p
 
 -- every entry of a table D is the best by places below k
-abbrev pub Full : {V : Type 0} → MeasureMeaning V → StreetMeaning → ℕ → ℕ → (ℕ → ℕ → Option V) → Type 0
-Full m s n k D = (a b : ℕ) → a < n → b < n → Best m s k a b (D a b)
+pub record Full {V : Type 0} (m : MeasureMeaning V) (s : StreetMeaning) (n k : ℕ) (D : ℕ → ℕ → Option V) : Type 0 where
+  pub best : (a b : ℕ) → a < n → b < n → Best m s k a b (D a b)
 
 -- in round k, at the pair (i, j): each entry has a walk by places up to k and reaches all walks by places below k;
 -- those passed reach all walks by places up to k

@@ -43,19 +43,8 @@ impl<'a, M: Measure> PairTable<'a, M, M::Value> {
         ensures rides { (s : StreetMeaning) → FullBelow M.Measure.meaning s k self.old → FullBelow M.Measure.meaning s (k + 1) self.new }
         ensures kept { RidesChanged self.old self.new }
     {
-        for i in 0..self.n {
+        for i in 0..self.places() {
             self.relax_row(k, i);
-        }
-    }
-
-    // The rounds of the places below `end`.
-    fn relax_rounds(&mut self, end: usize)
-        requires { end ≤ self.old.n }
-        ensures rides { (s : StreetMeaning) → FullBelow M.Measure.meaning s 0 self.old → FullBelow M.Measure.meaning s end self.new }
-        ensures kept { RidesChanged self.old self.new }
-    {
-        for k in 0..end {
-            self.relax_round(k);
         }
     }
 
@@ -64,6 +53,8 @@ impl<'a, M: Measure> PairTable<'a, M, M::Value> {
         ensures rides { (s : StreetMeaning) → FullBelow M.Measure.meaning s 0 self.old → FullBelow M.Measure.meaning s self.old.n self.new }
         ensures kept { RidesChanged self.old self.new }
     {
-        self.relax_rounds(self.n);
+        for k in 0..self.places() {
+            self.relax_round(k);
+        }
     }
 }

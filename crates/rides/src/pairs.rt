@@ -26,7 +26,7 @@ impl<'a, M, V: Copy> PairTable<'a, M, V> {
         PairTable { cells, n }
     }
 
-    // How many places there are; the check proves the loops at the start over this answer, and not over `self.n`.
+    // How many places there are; the check proves loops over this answer that it leaves open over `self.n`.
     pub(crate) fn places(&self) -> usize
         ensures { result ≡ self.now.n }
     {

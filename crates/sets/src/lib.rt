@@ -27,7 +27,7 @@ impl PlaceSet {
     }
 
     // Whether a place is in the set; none from 64 on is.
-    #[tactic(auto, using(crate::proofs::Laws::low_bit, crate::proofs::Laws::has_past), unfolding(crate::specs::Sets::has_bit))]
+    #[tactic(auto, using(std::proofs::lemmas::Nat::Bits::shr_and_one, crate::proofs::Laws::has_past), unfolding(crate::specs::Sets::has_bit))]
     pub fn has(self, place: usize) -> bool
         ensures told { result ≡ has_bit self.bits place }
         ensures outside { 64 ≤ place → result ≡ false }

@@ -4,6 +4,7 @@ ghost use Rattle.tables.specs.Tables.{blank, leg_in, ride_in, kind_in, own_in, b
 use cells::cell::{Cell, Entry};
 
 // Where cell `b` of row `a` stands in a table of rows with n cells each.
+#[tactic(auto, using(std::proofs::lemmas::Nat::rows))]
 fn row_place(n: usize, rows: usize, a: usize, b: usize) -> usize
     requires { (a < rows) × (b < n) × (n ≤ 64) × (rows ≤ 64) }
     ensures { (result ≡ a * n + b) × (result < rows * n) }

@@ -156,6 +156,6 @@ module _ {W : Type 0} (σ : Scale W) (sound : Sound σ) (τ : Task W) (rooted : 
   unfolding cost
   link_and_subtree s Q z l = apart s Q l ∙ ap (λ v. σ.joined v (part σ τ (beneath τ s) Q)) (cond-false (eqb s 0) _ _ (ne_eqb s 0 (λ e. omega arith)) ∙ sound.laws.comm _ _) ∙ sound.laws.assoc _ _ _
 
-  pub whole_tree : (Q : ℕ → ℕ) → 0 < τ.m → subtree_value σ τ 0 Q ≡ score σ τ Q
+  pub whole_tree : (Q : ℕ → ℕ) → 0 < τ.m → score σ τ Q ≡ subtree_value σ τ 0 Q
   unfolding cost score part
-  whole_tree Q z = sym (apart 0 Q z) ∙ total_same σ sound τ.m _ _ (λ c l. cond-true (in_subtree τ 0 c) _ _ (to_root τ rooted τ.m c l (omega arith)))
+  whole_tree Q z = sym (total_same σ sound τ.m _ _ (λ c l. cond-true (in_subtree τ 0 c) _ _ (to_root τ rooted τ.m c l (omega arith)))) ∙ apart 0 Q z

@@ -1,17 +1,14 @@
 -- The statements, put together.
 use Rattle.std.proofs.Common.{◌≡◌, false, inl, inr, ⊎_elim, arith}
 use Rattle.measures.specs.Scales.{Scale, Sound}
-use Rattle.trees.specs.Statements.{BoundIsLeast, SubtreesAddUp, MinimaAreLeast, FirstComesFirst, SplitLosesNothing, LeastIsFirstLeft, NoneWaiting, SplitKeepsPartition, InTurnInOrder}
+use Rattle.trees.specs.Statements.{BoundIsLeast, MinimaAreLeast, FirstComesFirst, SplitLosesNothing, SplitKeepsPartition}
 use Rattle.trees.proofs.Firsts.{bound_is_least, differ, true_score, itself, others, falls, empty}
-use Rattle.trees.proofs.Subtrees.{in_by_parent, link_and_subtree, whole_tree, subtree_least, hung_least}
-use Rattle.trees.proofs.Rounds.{part_in, one_place, chosen_foremost, all_none, step, all_before, in_order}
+use Rattle.trees.proofs.Subtrees.{subtree_least, hung_least}
+use Rattle.trees.proofs.Rounds.{part_in, one_place, step}
 
 module _ {W : Type 0} (σ : Scale W) (sound : Sound σ) where
   pub bounds : BoundIsLeast σ
   bounds τ H rooted minimal i P z l placed = bound_is_least σ sound τ H rooted 1 minimal i P (omega arith) z l placed
-
-  pub sums : SubtreesAddUp σ
-  sums τ rooted = (in_by_parent τ rooted, link_and_subtree σ sound τ rooted, whole_tree σ sound τ rooted)
 
   pub minima : MinimaAreLeast σ
   minima τ H rooted minimal s l = record { at = subtree_least σ sound τ H rooted minimal s l; under = hung_least σ sound τ H rooted minimal s l }
@@ -33,14 +30,5 @@ module _ {W : Type 0} (σ : Scale W) (sound : Sound σ) where
       fits : S.excluded (S.places S.depth) ≡ false
       fits = (itself σ sound τ H rooted minimal S first some).allowed
 
-  pub leasts : LeastIsFirstLeft σ
-  leasts τ H rooted minimal given len E waits w chosen = chosen_foremost σ sound τ H rooted minimal given len E waits w chosen
-
-  pub nones : NoneWaiting σ
-  nones τ H rooted minimal given len E waits all = all_none σ sound τ H rooted minimal given len E waits all
-
   pub keeps : SplitKeepsPartition σ
   keeps τ H rooted minimal given len E E' w at waits chosen parted firsts = step σ sound τ H rooted minimal given len E w at E' waits chosen parted firsts
-
-  pub orders : InTurnInOrder σ
-  orders τ given turn = (in_order σ τ turn, all_before σ τ turn)

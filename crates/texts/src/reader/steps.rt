@@ -17,6 +17,7 @@ fn before(part: &[u8], b: u8) -> Option<usize>
     part.iter().position(|byte| *byte == b)
 }
 
+#[tactic(auto, using(crate::proofs::Cuts::line_closed, crate::proofs::Cuts::line_open))]
 // Where the line that starts at `start` ends, or none where its end is missing.
 fn line_end(text: &[u8], start: usize) -> Option<usize>
     requires { start ≤ length text.now }
@@ -33,6 +34,7 @@ fn count_fields(line: &[u8]) -> usize
     line.split(|b| *b == b'\t').count()
 }
 
+#[tactic(auto, using(crate::proofs::Cuts::first_part))]
 // How many bytes the first field of a line has.
 fn first_field(line: &[u8]) -> usize
     ensures field { fields line.now ≡ take result line.now ∷ fields_from line.now (result + 1) }
@@ -125,6 +127,7 @@ impl<'a> Reader<'a> {
         Ok(true)
     }
 
+    #[tactic(auto, using(crate::proofs::Cuts::rest_is))]
     // The bytes of the line at hand from the next field on, or none past the last field.
     fn rest(&self) -> Option<&'a [u8]>
         ensures { MatchOption result (fields_left self.now ≡ []) (λ rest. (fields_left self.now ≡ fields rest.now) × (rest.now ≡ take (self.now.end - self.now.pos) (drop self.now.pos self.now.text.now)) × (self.now.pos + length rest.now ≡ self.now.end)) }

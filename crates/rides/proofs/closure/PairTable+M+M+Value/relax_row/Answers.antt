@@ -1,8 +1,7 @@
-use Rattle.std.proofs.Common.{◌≡◌, ℕ, ◌+◌, ◌<◌, Some, Option, sym, ◌∙◌, subst, arith}
+use Rattle.std.proofs.Common.{rules, ◌≡◌, ℕ, ◌+◌, ◌<◌, Some, Option, sym, ◌∙◌, subst, arith}
 use Rattle.plans.specs.Between.{Reaches}
 use Rattle.tables.specs.Tables.{ride_in}
 use Rattle.rides.specs.Rounds.{Mid}
-use Rattle.rides.proofs.Changes.{rides_then}
 use Rattle.rides.proofs.Rounding.{mid_step, row_end, row_skip}
 use Rattle.rides.proofs.closure.PairTable+M+M+Value.relax_row.Goals as goal
 
@@ -28,7 +27,7 @@ loop-j-preserved g c =
           (λ x e. mid.some_walk i k c.requires.0 c.requires.1 x (way ∙ e))
           (λ v t. subst (λ (o : Option g.row.M-Value.Denot). Reaches m o v) way (mid.none_below i k c.requires.0 c.requires.1 v t))
           (c.loop-j.invariant.0 s mid) c.relax.ensures.rides.there c.relax.ensures.rides.others)),
-      rides_then c.args.self.now c.loop-j.self new c.loop-j.invariant.1 c.relax.ensures.kept,
+      search rules,
     )
 
 pub returns-clause-rides : goal.returns-clause-rides

@@ -1,6 +1,6 @@
 use Rattle.streets.specs.Meaning.{StreetMeaning}
 use Rattle.rides.specs.PairTables.{RidesChanged, FullBelow}
-use Rattle.rides.proofs.closure.PairTable+M+M+Value.relax_rounds.Given as goal
+use Rattle.rides.proofs.closure.PairTable+M+M+Value.close.Given as goal
 
 abbrev pub invariant-loop-k : goal.invariant-loop-k
 invariant-loop-k g l =

@@ -1,7 +1,0 @@
-use Rattle.measures.specs.Scales.{optional}
-use Rattle.trees.proofs.Lift.{lifted}
-use Rattle.trees.proofs.Together.{splits}
-use Rattle.trees.proofs.laws.split_loses_nothing.Goals as goal
-
-pub returns : goal.returns
-returns g c = let m = g.M.Measure.meaning in splits (optional m) (lifted m g.met.M.Measure.lawful.laws)
