@@ -47,7 +47,7 @@ pub fn least_of<T: TotalOrder>(xs: &[T]) -> Option<usize>
     Some(best)
 }
 
-// The index of the least of a measure's values.
+// The index of the least of a measure's values: a call for a caller's values is a rule of the project.
 pub fn least_value<'a, M: Measure>(xs: &'a [Element<M>]) -> Option<usize>
 where
     M::Value: 'a,
