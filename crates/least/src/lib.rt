@@ -32,6 +32,7 @@ impl<M: Measure> TotalOrder for Element<M> {
 }
 
 // The index of the least entry; of equals the first; none for an empty list.
+// A loop: `enumerate` with `reduce` was tried, and what it returns was not proved.
 pub fn least_of<T: TotalOrder>(xs: &[T]) -> Option<usize>
     ensures { FirstLeast T.TotalOrder.precedes xs.now result }
 {
