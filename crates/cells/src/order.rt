@@ -7,8 +7,8 @@ use crate::cell::{Cell, Entry};
 use least::TotalOrder;
 use measures::Measure;
 
-// Whether a value is at or before another, no value being after all of them. No `Ord`: the order is that of a measure, which
-// many measures may give to one type.
+// Whether a value is at or before another, no value being after all of them. No `Ord`: the order is the measure's, given by
+// its trait with its laws, and a measure of a caller's own may order its values otherwise than their type does.
 pub fn at_most<M: Measure>(a: Option<M::Value>, b: Option<M::Value>) -> bool
     ensures { result ≡ at_most M.Measure.meaning.before a b }
 {

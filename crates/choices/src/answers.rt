@@ -3,7 +3,7 @@ ghost use Rattle.choices.specs.Fits.{number_of};
 
 use sets::PlaceSet;
 
-// The places that fit a stop.
+// The places that fit a stop. That an answer has the set, its size and its least place is a rule of the project.
 #[derive(Clone, Copy, Debug, PartialEq, Eq)]
 pub struct Choices {
     pub set: PlaceSet,
@@ -21,7 +21,8 @@ pub enum Refusal {
 }
 
 impl Refusal {
-    // The number of the refusal.
+    // The number of the refusal. A method of its own: its clause names the numbers of this enum, and a trait for the four
+    // such enums would be longer than their bodies.
     pub fn number(self) -> u8
         ensures { result ≡ number_of self }
     {

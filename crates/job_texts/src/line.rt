@@ -42,12 +42,10 @@ impl StopLine {
     fn link(self, at: Spot, parent: u8) -> Result<Option<Tie>, LineFault>
         ensures { result ≡ link_of at parent self.letter }
     {
-        let link = match self.letter {
-            Some(b'd') => Link::Direct,
-            Some(b'r') => Link::Ride,
-            _ => return Err(at.fault(FieldWrong::WrongLink, 5)),
-        };
-        Ok(Some(Tie { parent, link }))
+        match self.letter.map(Link::try_from) {
+            Some(Ok(link)) => Ok(Some(Tie { parent, link })),
+            _ => Err(at.fault(FieldWrong::WrongLink, 5)),
+        }
     }
 
     // The root has `-` for its link.

@@ -1,10 +1,22 @@
 -- The rules that the stops of a job keep.
-use Rattle.std.specs.Prelude.{◌≡◌, ℕ, ◌≤◌, Bool, true, cond, List, length, Some, None, Ok, Err, Option, Result, ◌||◌, ◌==◌, nat_lt}
+use Rattle.std.specs.Prelude.{◌≡◌, ℕ, ◌≤◌, Bool, true, cond, List, length, Some, None, Ok, Err, Option, Result, ◌||◌, ◌==◌, nat_lt, codes}
 use Rattle.std.specs.List.{slice_get}
+use Rattle.jobs.specs.declared.stops.Link.{Link}
+use Rattle.jobs.specs.declared.stops.Link.TheVariants.{Direct, Ride}
+use Rattle.jobs.specs.declared.stops.UnknownLink.{UnknownLink}
 use Rattle.jobs.specs.declared.stops.Stop.{Stop}
 use Rattle.jobs.specs.declared.stops.Tie.{Tie}
 use Rattle.jobs.specs.declared.stops.Refused.{Refused}
 use Rattle.jobs.specs.declared.stops.Refused.TheVariants.{Full, WrongTie, Empty}
+
+-- the link that a letter stands for: `d` is direct, `r` a ride
+abbrev pub linked : ℕ → Result Link UnknownLink
+linked letter = cond (letter == 100) (Ok Direct) (cond (letter == 114) (Ok Ride) (Err (record { letter = letter })))
+
+-- how a link is printed
+abbrev pub name_of : Link → List ℕ
+name_of Direct = codes "direct"
+name_of Ride = codes "ride"
 
 -- a stop of any kind that hangs on no other
 abbrev pub any_stop : Stop

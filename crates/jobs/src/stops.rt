@@ -1,5 +1,7 @@
-ghost use Rattle.std.specs.Prelude.{◌≡◌};
-ghost use Rattle.jobs.specs.Trees.{tied, takes};
+ghost use Rattle.std.specs.Prelude.{◌≡◌, Some};
+ghost use Rattle.jobs.specs.Trees.{tied, takes, linked, name_of};
+
+use std::fmt;
 
 // How the value of a link between two stops is found.
 #[derive(Clone, Copy, Debug, PartialEq, Eq)]
@@ -10,6 +12,39 @@ pub enum Link {
     Ride,
 }
 
+// A letter that stands for no link.
+#[derive(Clone, Copy, Debug, PartialEq, Eq)]
+pub struct UnknownLink {
+    pub letter: u8,
+}
+
+// The link that a letter stands for.
+impl TryFrom<u8> for Link {
+    type Error = UnknownLink;
+
+    ghost try_from_gives = { λ letter r. r ≡ linked letter };
+
+    fn try_from(letter: u8) -> Result<Link, UnknownLink> {
+        match letter {
+            b'd' => Ok(Link::Direct),
+            b'r' => Ok(Link::Ride),
+            _ => Err(UnknownLink { letter }),
+        }
+    }
+}
+
+// The name of a link.
+impl fmt::Display for Link {
+    ghost output = { λ link. Some (name_of link) };
+
+    fn fmt<W: fmt::Write>(&self, f: &mut fmt::Formatter<W>) -> fmt::Result {
+        f.write_str(match self {
+            Link::Direct => "direct",
+            Link::Ride => "ride",
+        })
+    }
+}
+
 // How a stop hangs on its parent, which is a stop with a smaller number.
 #[derive(Clone, Copy, Debug, PartialEq, Eq)]
 pub struct Tie {
@@ -17,8 +52,9 @@ pub struct Tie {
     pub link: Link,
 }
 
-// A stop of a job. Kind 0 means any kind; stop 0, the root, alone has no tie.
-#[derive(Clone, Copy, Debug, PartialEq, Eq)]
+// A stop of a job. Kind 0 means any kind: that it is 0, and not none, is a rule of the formats. Stop 0, the root, alone has
+// no tie. The default is of any kind and has no tie.
+#[derive(Clone, Copy, Debug, PartialEq, Eq, Default)]
 pub struct Stop {
     pub kind: u8,
     pub tie: Option<Tie>,
@@ -40,11 +76,10 @@ impl Stop {
     pub fn tied_at(self, number: usize) -> bool
         ensures { result ≡ tied number self.tie }
     {
-        match self.tie {
-            None => number == 0,
-            Some(tie) => usize::from(tie.parent) < number,
-        }
+        self.tie
+            .map_or(number == 0, |tie| usize::from(tie.parent) < number)
     }
+
     // Whether a place of this kind may stand for the stop.
     pub fn takes(self, kind: u8) -> bool
         ensures { result ≡ takes self kind }

@@ -32,6 +32,7 @@ impl<M: Measure> TotalOrder for Element<M> {
 }
 
 // The index of the least entry; of equals the first; none for an empty list.
+// A loop: `enumerate` with `reduce` was tried, and what it returns was not proved.
 pub fn least_of<T: TotalOrder>(xs: &[T]) -> Option<usize>
     ensures { FirstLeast T.TotalOrder.precedes xs.now result }
 {
@@ -47,7 +48,7 @@ pub fn least_of<T: TotalOrder>(xs: &[T]) -> Option<usize>
     Some(best)
 }
 
-// The index of the least of a measure's values.
+// The index of the least of a measure's values: a call for a caller's values is a rule of the project.
 pub fn least_value<'a, M: Measure>(xs: &'a [Element<M>]) -> Option<usize>
 where
     M::Value: 'a,

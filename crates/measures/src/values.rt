@@ -10,7 +10,8 @@ pub struct TimeValue {
     ghost fits: { seconds ≤ 4294967295 },
 }
 
-// The longest of some legs, in seconds. It has a time's field, but each measure brings a value type of its own.
+// The longest of some legs, in seconds. It has a time's field: that the three measures differ in their value types is a
+// rule of the project.
 #[derive(Clone, Copy, Debug, PartialEq, Eq, PartialOrd, Ord)]
 pub struct LongestValue {
     pub seconds: u32,

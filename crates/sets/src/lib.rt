@@ -57,7 +57,7 @@ impl PlaceSet {
         self.bits.count_ones()
     }
 
-    // The least place in the set, 64 where it is empty.
+    // The least place in the set, 64 where it is empty: that it is 64, and not none, is a rule of the project.
     #[tactic(auto, using(crate::proofs::Laws::trailing_least))]
     pub fn least(self) -> u32
         ensures { Least (has_bit self.bits) 64 result }

@@ -14,22 +14,17 @@ mod tests {
     use streets::list::ListStreet;
     use streets::street::Street;
 
+    // What a street answers where there is a leg.
+    fn leg(climb: u16, seconds: u16) -> Option<Leg> {
+        Some(Leg { climb, seconds })
+    }
+
     fn record(from: u8, to: u8, seconds: u16) -> LegRecord {
         LegRecord {
             from,
             to,
             leg: Leg { climb: 0, seconds },
         }
-    }
-
-    // The seconds of a leg, if there is one.
-    fn seconds<S: Street>(street: &S, from: usize, to: usize) -> Option<u16> {
-        street.leg(from, to).map(|leg| leg.seconds)
-    }
-
-    // The climb of a leg, if there is one.
-    fn climb<S: Street>(street: &S, from: usize, to: usize) -> Option<u16> {
-        street.leg(from, to).map(|leg| leg.climb)
     }
 
     #[test]
@@ -44,10 +39,10 @@ mod tests {
         ];
         let street = ListStreet::new(&kinds, &records);
         assert_eq!(rt; street.places(), 3);
-        assert_eq!(rt; seconds(&street, 0, 1), Some(7));
-        assert_eq!(rt; seconds(&street, 1, 0), Some(6));
-        assert_eq!(rt; seconds(&street, 2, 2), None);
-        assert_eq!(rt; seconds(&street, 0, 3), None);
+        assert_eq!(rt; street.leg(0, 1), leg(0, 7));
+        assert_eq!(rt; street.leg(1, 0), leg(0, 6));
+        assert_eq!(rt; street.leg(2, 2), None);
+        assert_eq!(rt; street.leg(0, 3), None);
         assert_eq!(rt; street.kind(2), 3);
         assert_eq!(rt; street.kind(3), 0);
     }
@@ -62,25 +57,23 @@ mod tests {
         assert_eq!(rt; street.places(), 64);
         assert_eq!(rt; street.kind(63), 9);
         assert_eq!(rt; street.kind(64), 0);
-        assert_eq!(rt; seconds(&street, 0, 1), Some(5));
-        assert_eq!(rt; seconds(&street, 2, 3), Some(6));
+        assert_eq!(rt; street.leg(0, 1), leg(0, 5));
+        assert_eq!(rt; street.leg(2, 3), leg(0, 6));
     }
 
     #[test]
     fn a_quarter_is_a_grid(rt: HostRuntime) -> Result<(), Fail> {
-        let Ok(street) = Quarter::new(3, 2, 2, 60, 5) else {
-            return Err(Fail::new("refused"));
-        };
+        let street = Quarter::new(3, 2, 2, 60, 5)?;
         assert_eq!(rt; street.places(), 6);
         assert_eq!(rt; street.kind(0), 1);
         assert_eq!(rt; street.kind(1), 2);
         assert_eq!(rt; street.kind(4), 1);
-        assert_eq!(rt; climb(&street, 1, 4), Some(5));
-        assert_eq!(rt; climb(&street, 4, 1), Some(0));
-        assert_eq!(rt; climb(&street, 0, 1), Some(0));
-        assert_eq!(rt; seconds(&street, 2, 1), Some(60));
-        assert_eq!(rt; seconds(&street, 2, 3), None);
-        assert_eq!(rt; seconds(&street, 0, 4), None);
+        assert_eq!(rt; street.leg(1, 4), leg(5, 60));
+        assert_eq!(rt; street.leg(4, 1), leg(0, 60));
+        assert_eq!(rt; street.leg(0, 1), leg(0, 60));
+        assert_eq!(rt; street.leg(2, 1), leg(0, 60));
+        assert_eq!(rt; street.leg(2, 3), None);
+        assert_eq!(rt; street.leg(0, 4), None);
         Ok(())
     }
 
@@ -126,20 +119,20 @@ mod tests {
     }
 
     #[test]
-    fn choices_are_the_places_of_a_kind(rt: HostRuntime) {
+    fn choices_are_the_places_of_a_kind(rt: HostRuntime) -> Result<(), Fail> {
         let kinds = [1u8, 2, 2, 0];
         let street = ListStreet::new(&kinds, &[]);
         let mut draft = Draft::new();
-        assert!(rt; draft.push(Stop { kind: 2, tie: None }).is_ok());
-        assert!(rt; draft.push(hung(0, 0, Link::Ride)).is_ok());
-        assert!(rt; draft.push(hung(3, 1, Link::Direct)).is_ok());
-        let mut job = Job::new();
-        assert_eq!(rt; told(&street, &job, 0), Ok((15, 4, 0)));
-        assert!(rt; job.put(draft).is_ok());
+        draft.push(Stop { kind: 2, tie: None })?;
+        draft.push(hung(0, 0, Link::Ride))?;
+        draft.push(hung(3, 1, Link::Direct))?;
+        let job = Job::try_from(draft)?;
+        assert_eq!(rt; told(&street, &Job::new(), 0), Ok((15, 4, 0)));
         assert_eq!(rt; told(&street, &job, 0), Ok((6, 2, 1)));
         assert_eq!(rt; told(&street, &job, 1), Ok((15, 4, 0)));
         assert_eq!(rt; told(&street, &job, 2), Ok((0, 0, 64)));
         assert_eq!(rt; told(&street, &job, 3), Err(Refusal::NoSuchStop));
         assert_eq!(rt; Refusal::NoSuchStop.number(), 52);
+        Ok(())
     }
 }

@@ -15,7 +15,7 @@ pub trait Street {
     fn places(&self) -> usize
         ensures { result ≡ (meaning self.now).places };
 
-    // The kind of a place, 0 outside the places.
+    // The kind of a place, 0 outside the places: that it is 0, and not none, is a rule of the project.
     fn kind(&self, place: usize) -> u8
         ensures { result ≡ (meaning self.now).kind place };
 

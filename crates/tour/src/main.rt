@@ -8,21 +8,11 @@ use console::line::build::LINE_ROOM;
 use jobs::job::Job;
 use std::io::{ErrorKind, Write};
 use std::{fs, io};
-use streets::legs::{Leg, LegRecord};
+use streets::legs::LegRecord;
 use streets::list::{ListStreet, MOST_PLACES};
 
 // The leg records that the console has room for.
 const LEG_ROOM: usize = 128;
-
-// What stands in those records before a book is read.
-const NO_LEG: LegRecord = LegRecord {
-    from: 0,
-    to: 0,
-    leg: Leg {
-        climb: 0,
-        seconds: 0,
-    },
-};
 
 // The bytes of a file, none where it is missing.
 fn text_of(rt: &HostRuntime, path: &str) -> io::Result<Vec<u8>> {
@@ -58,7 +48,7 @@ fn main(rt: HostRuntime) -> io::Result<()> {
     let book = text_of(&rt, "street.txt")?;
     let text = text_of(&rt, "job.txt")?;
     let mut kinds = [0u8; MOST_PLACES];
-    let mut legs = [NO_LEG; LEG_ROOM];
+    let mut legs = [LegRecord::default(); LEG_ROOM];
     let mut job = Job::new();
     match read_inputs(&book, &text, &mut kinds, &mut legs, &mut job) {
         Ok(read) => {

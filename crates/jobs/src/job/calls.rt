@@ -2,12 +2,10 @@ ghost use Rattle.std.specs.Prelude.{◌≡◌, ◌≤◌, [], ◌∷◌, ◌++�
 ghost use Rattle.std.specs.List.{slice_get};
 ghost use Rattle.jobs.specs.Trees.{AllTied, Tree, any_stop, judged, counted};
 ghost use Rattle.jobs.specs.Jobs.{drafted, stops_of};
+ghost use Rattle.jobs.specs.declared.stops.Refused.TheVariants.{Empty};
 
 use super::{Draft, Job};
 use crate::stops::{Refused, Stop};
-
-// A stop of any kind that hangs on no other.
-const ANY: Stop = Stop { kind: 0, tie: None };
 
 impl Draft {
     // A draft without stops.
@@ -15,7 +13,7 @@ impl Draft {
         ensures { drafted result ≡ [] }
     {
         Draft {
-            stops: [ANY; 12],
+            stops: [Stop::default(); 12],
             len: 0,
         }
     }
@@ -56,6 +54,20 @@ impl Draft {
     }
 }
 
+// A job of the draft's stops; an empty draft is refused.
+impl TryFrom<Draft> for Job {
+    type Error = Refused;
+
+    ghost try_from_gives = { λ draft r. MatchResult r (λ job. stops_of job ≡ drafted draft) (λ e. (e ≡ Empty) × (drafted draft ≡ [])) };
+
+    fn try_from(draft: Draft) -> Result<Job, Refused> {
+        if draft.len() == 0 {
+            return Err(Refused::Empty);
+        }
+        Ok(Job { draft })
+    }
+}
+
 impl Job {
     // A job of one stop, which every place fits.
     pub fn new() -> Job
@@ -63,7 +75,7 @@ impl Job {
     {
         Job {
             draft: Draft {
-                stops: [ANY; 12],
+                stops: [Stop::default(); 12],
                 len: 1,
             },
         }
@@ -97,11 +109,7 @@ impl Job {
         ensures told { result ≡ counted (drafted draft) }
         ensures written { MatchResult result (λ _. stops_of self.new ≡ drafted draft) (λ _. self.new ≡ self.old) }
     {
-        let n = draft.len();
-        if n == 0 {
-            return Err(Refused::Empty);
-        }
-        *self = Job { draft };
-        Ok(n)
+        *self = Job::try_from(draft)?;
+        Ok(self.len())
     }
 }

@@ -25,7 +25,8 @@ impl From<TryFromIntError> for QuarterRefusal {
 }
 
 impl QuarterRefusal {
-    // The number that stands for the refusal.
+    // The number that stands for the refusal. A method of its own: its clause names the numbers of this enum, and a trait
+    // for the four such enums would be longer than their bodies.
     pub fn number(self) -> u8
         ensures { result ≡ number_of self }
     {
@@ -35,7 +36,8 @@ impl QuarterRefusal {
 
 impl Quarter {
     // A quarter of `width` times `height` crossings, at most 64, whose kinds go from 1 to `kinds`; each leg takes
-    // `seconds`, and one to the next row climbs `climb` metres.
+    // `seconds`, and one to the next row climbs `climb` metres. Five numbers: a caller has them by name already, and a struct
+    // of them would be made only for this call.
     pub fn new(
         width: u32,
         height: u32,
