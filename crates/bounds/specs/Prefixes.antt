@@ -4,6 +4,7 @@ use Rattle.measures.specs.Optional.{both}
 use Rattle.measures.specs.Meaning.{MeasureMeaning}
 use Rattle.sets.specs.Sets.{has_bit}
 use Rattle.jobs.specs.declared.stops.Stop.{Stop}
+use Rattle.jobs.specs.Trees.{parent_in}
 use Rattle.measures.specs.Scales.{optional, total}
 use Rattle.trees.specs.Tasks.{Task, put}
 use Rattle.trees.specs.Minima.{bound}
@@ -11,7 +12,7 @@ use Rattle.trees.specs.Subspaces.{Picked}
 use Rattle.cells.specs.declared.cell.Cell.{Cell}
 use Rattle.cells.specs.Cells.{places_of}
 use Rattle.tables.specs.Tables.{own_in, hang_in}
-use Rattle.minima.specs.Tables.{parent_in, link_in, hanging_in}
+use Rattle.minima.specs.Tables.{link_in, hanging_in}
 use Rattle.bounds.specs.declared.choice.Choice.{Choice}
 
 -- what stop s adds at place q where its parent stands at place p

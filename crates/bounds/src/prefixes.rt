@@ -1,17 +1,17 @@
 ghost use Rattle.std.specs.Prelude.{◌≡◌, ℕ, ◌+◌, ◌<◌, ◌⊎◌, length, if◌then◌else◌, Some, Option, nat_eq};
 ghost use Rattle.jobs.specs.Jobs.{stops_of};
+ghost use Rattle.jobs.specs.Trees.{parent_in};
 ghost use Rattle.measures.specs.Scales.{optional};
 ghost use Rattle.trees.specs.Tasks.{Task, put};
 ghost use Rattle.trees.specs.Minima.{bound};
 ghost use Rattle.cells.specs.Cells.{places_of};
-ghost use Rattle.minima.specs.Tables.{parent_in, link_in, Tables};
+ghost use Rattle.minima.specs.Tables.{link_in, Tables};
 ghost use Rattle.bounds.specs.Prefixes.{cost_in, term_in, rest_in, here_in, Picking};
 
 use crate::choice::Choice;
 use measures::Measure;
 use measures::optional::join_options;
 use minima::board::Board;
-use minima::links::parent_at;
 use sets::PlaceSet;
 
 // The plans in which the stops below stop i have these places.
@@ -43,7 +43,7 @@ impl<'a, M: Measure> Prefix<'a, M, M::Value> {
         if s == 0 {
             return Some(M::ZERO);
         }
-        let p = self.place(parent_at(self.board.job, s));
+        let p = self.place(self.board.job.parent(s));
         self.board.link(s, p, q)
     }
 
@@ -66,7 +66,7 @@ impl<'a, M: Measure> Prefix<'a, M, M::Value> {
         if s < self.i {
             return self.cost(s);
         }
-        let parent = parent_at(self.board.job, s);
+        let parent = self.board.job.parent(s);
         if parent < self.i {
             let p = self.place(parent);
             self.board.hang(s, p)

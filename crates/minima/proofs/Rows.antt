@@ -9,6 +9,7 @@ use Rattle.measures.specs.Meaning.{MeasureMeaning}
 use Rattle.jobs.specs.declared.stops.Stop.{Stop}
 use Rattle.jobs.specs.declared.job.Job.{Job}
 use Rattle.jobs.specs.Jobs.{stops_of}
+use Rattle.jobs.specs.Trees.{tie_in, child_in}
 use Rattle.measures.specs.Scales.{Scale, optional, total}
 use Rattle.trees.specs.Tasks.{Task, cost, LeastOf}
 use Rattle.trees.specs.Minima.{IsLeast, child, hanging, Minimal}
@@ -18,7 +19,7 @@ use Rattle.trees.proofs.Bounds.{total_same, least_same}
 use Rattle.trees.proofs.Together.{minima}
 use Rattle.cells.specs.declared.cell.Cell.{Cell}
 use Rattle.tables.specs.Tables.{blank, leg_in, ride_in, own_in, best_in, hang_in, Stays}
-use Rattle.minima.specs.Tables.{child_in, by_tie, tie_in, link_in, hanging_in, RowIn, Holds, task_in}
+use Rattle.minima.specs.Tables.{by_tie, link_in, hanging_in, RowIn, Holds, task_in}
 use Rattle.jobs.proofs.Ties.{both_below, root_itself}
 
 -- two cells of stops at places are the same one only for the same stop and place

@@ -1,15 +1,15 @@
 ghost use Rattle.std.specs.Prelude.{◌≡◌, ℕ, ◌<◌, length, if◌then◌else◌, Some, Option, ◌≢◌, slice_index_or};
 ghost use Rattle.measures.specs.Optional.{both};
 ghost use Rattle.jobs.specs.Jobs.{stops_of};
+ghost use Rattle.jobs.specs.Trees.{child_in};
 ghost use Rattle.measures.specs.Scales.{at_most, optional};
 ghost use Rattle.trees.specs.Tasks.{Task};
 ghost use Rattle.trees.specs.Minima.{IsLeast};
 ghost use Rattle.trees.specs.Subtrees.{SubtreeLeast};
 ghost use Rattle.tables.specs.Tables.{blank, own_in, best_in, hang_in, Stays};
-ghost use Rattle.minima.specs.Tables.{child_in, link_in, Ready, hanging_in, RowIn, Holds, task_in, Tables};
+ghost use Rattle.minima.specs.Tables.{link_in, Ready, hanging_in, RowIn, Holds, task_in, Tables};
 
 use crate::board::Board;
-use crate::links::is_child;
 use cells::cell::Cell;
 use cells::order::lesser;
 use jobs::job::Job;
@@ -23,7 +23,7 @@ impl<'a, M: Measure> Board<'a, M, M::Value> {
         requires { (q < self.now.n) × (c < length (stops_of self.now.job.now)) }
         ensures { result ≡ both M.Measure.meaning.joined sum (if child_in (stops_of self.now.job.now) s c then hang_in self.now.cells.now self.now.n c q else Some M.Measure.meaning.nought) }
     {
-        if is_child(self.job, s, c) {
+        if self.job.hangs_on(c, s) {
             join_options::<M>(sum, self.hang(c, q))
         } else {
             sum
