@@ -12,8 +12,8 @@ use leaders::advancing::advance;
 use leaders::rows::find_head;
 use measures::Measure;
 use measures::optional::join_options;
+use minima::board::BoardMut;
 use minima::links::link_at;
-use minima::subtrees::fill_minima;
 use tables::access::{cell_at, stop_at};
 use waiting::picking::find_next;
 use waiting::queue::Waiting;
@@ -160,7 +160,7 @@ fn run<M: Measure>(cells: &mut [Cell<M, M::Value>], job: &Job, seed: u64) -> Res
         return Err(Wrong::Setting);
     }
     fill::<M>(cells, seed);
-    fill_minima::<M>(cells, PLACES, job);
+    BoardMut::new(cells, PLACES, job).fill_minima();
     let waiting = Waiting {
         n: PLACES,
         job,
