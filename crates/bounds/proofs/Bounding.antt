@@ -6,6 +6,7 @@ use Rattle.std.proofs.lemmas.Bool.Decides.{nat_tests}
 use Rattle.measures.specs.Laws.{Laws}
 use Rattle.measures.specs.Meaning.{MeasureMeaning}
 use Rattle.jobs.specs.Jobs.{stops_of}
+use Rattle.jobs.specs.Trees.{parent_in}
 use Rattle.measures.specs.Scales.{optional, total}
 use Rattle.trees.specs.Tasks.{Task, cost, put}
 use Rattle.trees.specs.Minima.{child, hanging, term, bound, besides}
@@ -13,7 +14,7 @@ use Rattle.trees.proofs.Lift.{lifted}
 use Rattle.trees.proofs.Bounds.{total_same, bound_more, bound_root, besides_root}
 use Rattle.tables.specs.Tables.{own_in, hang_in}
 use Rattle.minima.specs.declared.board.Board.{Board}
-use Rattle.minima.specs.Tables.{parent_in, hanging_in, Tables}
+use Rattle.minima.specs.Tables.{hanging_in, Tables}
 use Rattle.jobs.proofs.Ties.{tied_below, both_below}
 use Rattle.bounds.specs.Prefixes.{term_in, cost_in, rest_in, here_in, IsBound}
 use Rattle.cells.specs.Cells.{places_of}

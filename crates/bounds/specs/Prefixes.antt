@@ -3,6 +3,7 @@ use Rattle.std.specs.Prelude.{◌≡◌, ℕ, ◌+◌, cond, length, Some, Optio
 use Rattle.measures.specs.Optional.{both}
 use Rattle.measures.specs.Meaning.{MeasureMeaning}
 use Rattle.sets.specs.Sets.{has_bit}
+use Rattle.jobs.specs.Trees.{parent_in}
 use Rattle.measures.specs.Scales.{optional, total}
 use Rattle.trees.specs.Tasks.{Task, put}
 use Rattle.trees.specs.Minima.{bound}
@@ -10,7 +11,7 @@ use Rattle.trees.specs.Subspaces.{Picked}
 use Rattle.cells.specs.Cells.{places_of}
 use Rattle.tables.specs.Tables.{own_in, hang_in}
 use Rattle.minima.specs.declared.board.Board.{Board}
-use Rattle.minima.specs.Tables.{parent_in, link_in, hanging_in, Tables}
+use Rattle.minima.specs.Tables.{link_in, hanging_in, Tables}
 use Rattle.jobs.specs.Jobs.{stops_of}
 use Rattle.bounds.specs.declared.choice.Choice.{Choice}
 use Rattle.bounds.specs.declared.prefixes.Prefix.{Prefix}

@@ -8,7 +8,6 @@ use cells::places::Places;
 use measures::Measure;
 use measures::optional::join_options;
 use minima::board::Board;
-use minima::links::parent_at;
 use sets::PlaceSet;
 
 // The plans in which the stops below stop i have these places.
@@ -22,7 +21,8 @@ pub struct Prefix<'a, M, V> {
 }
 
 impl<'a, M: Measure> Prefix<'a, M, M::Value> {
-    ghost use Rattle.minima.specs.Tables.{parent_in, link_in};
+    ghost use Rattle.jobs.specs.Trees.{parent_in};
+    ghost use Rattle.minima.specs.Tables.{link_in};
     ghost use Rattle.bounds.specs.Prefixes.{cost_in, term_in, rest_in, here_in, IsBound, Picks};
 
     // The place of a stop below stop i.
@@ -44,7 +44,7 @@ impl<'a, M: Measure> Prefix<'a, M, M::Value> {
         if s == 0 {
             return Some(M::ZERO);
         }
-        let p = self.place(parent_at(self.board.job, s));
+        let p = self.place(self.board.job.parent(s));
         self.board.link(s, p, q)
     }
 
@@ -67,7 +67,7 @@ impl<'a, M: Measure> Prefix<'a, M, M::Value> {
         if s < self.i {
             return self.cost(s);
         }
-        let parent = parent_at(self.board.job, s);
+        let parent = self.board.job.parent(s);
         if parent < self.i {
             let p = self.place(parent);
             self.board.hang(s, p)

@@ -3,13 +3,19 @@ use Rattle.std.proofs.Common.{◌≡◌, ℕ, ◌+◌, ◌*◌, ◌<◌, ◌≤�
 use Rattle.std.specs.List.{slice_get}
 use Rattle.std.proofs.lemmas.Bool.{cases_lt}
 use Rattle.measures.specs.Meaning.{MeasureMeaning}
+use Rattle.jobs.specs.Jobs.{stops_of}
+use Rattle.jobs.specs.Trees.{takes}
 use Rattle.jobs.specs.declared.stops.Stop.{Stop}
 use Rattle.plans.specs.Plans.{fits}
 use Rattle.cells.specs.declared.cell.Cell.{Cell}
-use Rattle.tables.specs.Tables.{blank, kind_in, own_in, OwnsOnly}
+use Rattle.tables.specs.Tables.{blank, kind_in, own_in, OwnsOnly, OwnWritten}
 use Rattle.tours.specs.Jobs.{kind_of}
+use Rattle.minima.specs.Boards.{stop_cell, Shows, SameBoard}
+use Rattle.minima.specs.declared.board.Board.{Board}
+use Rattle.minima.specs.declared.board.BoardMut.{BoardMut}
 use Rattle.minima.proofs.Rows.{same_stop, same_place}
-use Rattle.fitting.specs.Owns.{own_by, Owned}
+use Rattle.minima.proofs.Filling.{same_none, same_both}
+use Rattle.fitting.specs.Owns.{own_by, Owned, OwnedBoard}
 
 module _ {M V : Type 0} where
   pub only_none : (a : List (Cell M V)) → OwnsOnly a a
@@ -71,3 +77,35 @@ module _ {M V : Type 0} where
 
       outside : (i : ℕ) → (i < n * n + (s * n + q)) ⊎ (n * n + (s * n + (q + 1)) ≤ i) → i ≡ at → ⊥
       outside i x is = ⊎_elim (λ h. omega arith) (λ h. omega arith) x
+
+-- the same of a board that is written
+module _ {M V : Type 0} (m : MeasureMeaning V) (old : BoardMut M V) where
+  pub board_none : (a k : ℕ) → k ≡ 0 → OwnedBoard m a k old old
+  board_none a k e = record { same = same_none old; owned = owned_at m old.n (stops_of old.job.now) old.cells.now old.cells.now a a a (a + k) refl (omega arith) (owned_none m old.n (stops_of old.job.now) a old.cells.now) }
+
+  -- the own value of stop s at place k is written
+  pub board_place : (s k next : ℕ) (mid new : BoardMut M V) (b : Board M V) (stop : Stop) (v : Option V) → next ≡ k + 1 → k < old.n → slice_get (stops_of old.job.now) s ≡ Some stop → Shows mid b →
+      OwnedBoard m (s * old.n) k old mid → v ≡ cond (takes stop (kind_in b.cells.now b.n k)) (Some m.nought) None →
+      OwnWritten (stop_cell mid.n s k) v mid.cells.now new.cells.now → SameBoard mid new → OwnedBoard m (s * old.n) next old new
+  board_place s k next mid new b stop v e l here shows to is written same =
+      let en : mid.n ≡ old.n = to.same.n in
+      let w : OwnWritten (stop_cell old.n s k) v mid.cells.now new.cells.now = rw en at written in
+      let value : v ≡ cond (takes stop (kind_in mid.cells.now old.n k)) (Some m.nought) None = rw (shows.cells, shows.n, en) at is in
+      let by : v ≡ own_by m mid.cells.now old.n (stops_of old.job.now) s k = value ∙ sym (ap (λ o. cond (fits (kind_of o) (kind_in mid.cells.now old.n k)) (Some m.nought) None) here) in record {
+        same = same_both old mid new to.same same;
+        owned = owned_at m old.n (stops_of old.job.now) old.cells.now new.cells.now (s * old.n) (s * old.n + (k + 1)) (s * old.n) (s * old.n + next) refl (omega arith)
+            (owned_both m old.n (stops_of old.job.now) old.cells.now mid.cells.now new.cells.now (s * old.n) (s * old.n + k) (s * old.n + (k + 1)) (omega arith) (omega arith) to.owned
+            (owned_one m old.n (stops_of old.job.now) mid.cells.now new.cells.now s k (stop_cell old.n s k) v refl l w.there w.others w.only by));
+      }
+
+  -- the own values of stop s are written
+  pub board_row : (s : ℕ) (mid new : BoardMut M V) → OwnedBoard m 0 (s * old.n) old mid → OwnedBoard m (s * mid.n) mid.n mid new → OwnedBoard m 0 ((s + 1) * old.n) old new
+  board_row s mid new to row =
+      let en : mid.n ≡ old.n = to.same.n in
+      let ej : mid.job ≡ old.job = to.same.job in
+      let owned : Owned m old.n (stops_of old.job.now) (s * old.n) (s * old.n + old.n) mid.cells.now new.cells.now = rw (en, ej) at row.owned in
+      let before : Owned m old.n (stops_of old.job.now) 0 (s * old.n) old.cells.now mid.cells.now = owned_at m old.n (stops_of old.job.now) old.cells.now mid.cells.now 0 (0 + s * old.n) 0 (s * old.n) refl (omega arith) to.owned in record {
+        same = same_both old mid new to.same row.same;
+        owned = owned_at m old.n (stops_of old.job.now) old.cells.now new.cells.now 0 (s * old.n + old.n) 0 (0 + (s + 1) * old.n) refl (omega arith)
+            (owned_both m old.n (stops_of old.job.now) old.cells.now mid.cells.now new.cells.now 0 (s * old.n) (s * old.n + old.n) (omega arith) (omega arith) before owned);
+      }

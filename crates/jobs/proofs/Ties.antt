@@ -1,12 +1,12 @@
 -- A job's stops make a tree: each parent has a smaller number.
-use Rattle.std.proofs.Common.{◌≡◌, ℕ, ◌<◌, ◌≤◌, true, List, length, Some, None, Option, refl, arith}
+use Rattle.std.proofs.Common.{◌≡◌, ℕ, ◌<◌, ◌≤◌, true, List, length, Some, None, Option, sym, refl, subst, arith}
 use Rattle.std.specs.List.{slice_get}
 use Rattle.std.proofs.lemmas.List.{length-take-le}
 use Rattle.std.proofs.lemmas.Bool.Decides.{nat_tests}
 use Rattle.jobs.specs.declared.stops.Stop.{Stop}
 use Rattle.jobs.specs.declared.stops.Tie.{Tie}
 use Rattle.jobs.specs.declared.job.Job.{Job}
-use Rattle.jobs.specs.Trees.{tie_of, parent_of, tied, AllTied, Tree}
+use Rattle.jobs.specs.Trees.{tie_of, parent_of, tie_in, tied, AllTied, Tree}
 use Rattle.jobs.specs.Jobs.{stops_of}
 
 tie_below : (s : ℕ) (o : Option Tie) → tied s o ≡ true → (parent_of o ≤ s) × (0 < s → parent_of o < s)
@@ -30,6 +30,10 @@ both_below j = below (stops_of j) j.draft.hung
 
 pub tied_below : (j : Job) (s : ℕ) → parent_of (tie_of (slice_get (stops_of j) s)) ≤ s
 tied_below j s = (both_below j s).0
+
+-- the parent of a tie has no greater number
+pub parent_below : (j : Job) (s : ℕ) (t : Tie) → Some t ≡ tie_in (stops_of j) s → t.parent ≤ s
+parent_below j s t e = let h : parent_of (tie_in (stops_of j) s) ≤ s = tied_below j s in subst (λ (o : Option Tie). parent_of o ≤ s) (sym e) h
 
 pub root_itself : (j : Job) → parent_of (tie_of (slice_get (stops_of j) 0)) ≡ 0
 root_itself j = root (stops_of j) j.draft.hung

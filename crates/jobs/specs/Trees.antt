@@ -1,5 +1,5 @@
 -- The rules that the stops of a job keep.
-use Rattle.std.specs.Prelude.{◌≡◌, ℕ, ◌≤◌, Bool, true, cond, List, length, Some, None, Ok, Err, Option, Result, ◌||◌, ◌==◌, nat_lt, codes}
+use Rattle.std.specs.Prelude.{◌≡◌, ℕ, ◌≤◌, Bool, true, cond, ◌&&◌, List, length, Some, None, Ok, Err, Option, Result, ◌||◌, ◌==◌, nat_lt, codes}
 use Rattle.std.specs.List.{slice_get}
 use Rattle.jobs.specs.declared.stops.Link.{Link}
 use Rattle.jobs.specs.declared.stops.Link.TheVariants.{Direct, Ride}
@@ -35,6 +35,18 @@ tie_of None = None
 abbrev pub parent_of : Option Tie → ℕ
 parent_of (Some tie) = tie.parent
 parent_of None = 0
+
+-- the tie of stop s
+abbrev pub tie_in : List Stop → ℕ → Option Tie
+tie_in stops s = tie_of (slice_get stops s)
+
+-- the parent of stop s; the root counts as its own
+abbrev pub parent_in : List Stop → ℕ → ℕ
+parent_in stops s = parent_of (tie_in stops s)
+
+-- stop c hangs on stop s
+abbrev pub child_in : List Stop → ℕ → ℕ → Bool
+child_in stops s c = nat_lt 0 c && parent_in stops c == s
 
 -- stop 0 alone has no tie; any other hangs on a stop with a smaller number
 abbrev pub tied : ℕ → Option Tie → Bool

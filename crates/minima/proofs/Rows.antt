@@ -9,6 +9,7 @@ use Rattle.measures.specs.Meaning.{MeasureMeaning}
 use Rattle.jobs.specs.declared.stops.Stop.{Stop}
 use Rattle.jobs.specs.declared.job.Job.{Job}
 use Rattle.jobs.specs.Jobs.{stops_of}
+use Rattle.jobs.specs.Trees.{tie_in, child_in}
 use Rattle.measures.specs.Scales.{Scale, optional, total}
 use Rattle.trees.specs.Tasks.{Task, cost, LeastOf}
 use Rattle.trees.specs.Minima.{IsLeast, child, hanging, Minimal}
@@ -18,7 +19,7 @@ use Rattle.trees.proofs.Bounds.{total_same, least_same}
 use Rattle.trees.proofs.Together.{minima}
 use Rattle.cells.specs.declared.cell.Cell.{Cell}
 use Rattle.tables.specs.Tables.{blank, leg_in, ride_in, own_in, best_in, hang_in, Stays}
-use Rattle.minima.specs.Tables.{child_in, by_tie, tie_in, link_in, hanging_in, RowIn, Holds, task_in}
+use Rattle.minima.specs.Tables.{by_tie, link_in, hanging_in, RowIn, Holds, task_in}
 use Rattle.jobs.proofs.Ties.{both_below, root_itself}
 
 -- two cells of stops at places are the same one only for the same stop and place
@@ -85,6 +86,17 @@ module _ {M V : Type 0} where
   unfolding hang_in
   hang_there cells n s q at v e h = ap (λ i. (get_or cells i blank).hang) (sym e) ∙ h
 
+  -- the cells hold the task that they and a job's stops make
+  pub fits : (cells : List (Cell M V)) (n : ℕ) (j : Job) → Holds cells n (stops_of j) (task_in cells n (stops_of j))
+  fits cells n j = record {
+    count = refl;
+    size = refl;
+    parents = λ s l. refl;
+    owns = λ s q l h. refl;
+    links = λ s p q z l h k. refl;
+    rooted = (root_itself j, λ s z l. (both_below j s).1 z);
+  }
+
   module _ (meaning : MeasureMeaning V) (laws : Laws meaning.nought meaning.joined meaning.before) (n : ℕ) (j : Job) where
     -- only the rows behind a stop's own count for what hangs on it
     pub hanging_stays : (old new : List (Cell M V)) (s q : ℕ) → ((c : ℕ) → s < c → hang_in new n c q ≡ hang_in old n c q) → hanging_in meaning new n (stops_of j) s q ≡ hanging_in meaning old n (stops_of j) s q
@@ -115,16 +127,6 @@ module _ {M V : Type 0} where
       best = λ q l. best_stays mid new n bn s q ∙ best q l ∙ ap₂ (both meaning.joined) (sym (own_stays old new n (stays_both old mid new f g) s q))
           (sym (hanging_stays old new s q (λ c h. others c q (λ e. omega arith) l ∙ hang_stays old mid n hm c q)));
       hang = λ p l. least_same (optional meaning) (lifted meaning laws) n _ _ _ _ (λ q h. ap₂ (both meaning.joined) (link_stays mid new n g (stops_of j) s p q) (best_stays mid new n bn s q)) refl (hang p l);
-    }
-
-    pub fits : (cells : List (Cell M V)) → Holds cells n (stops_of j) (task_in cells n (stops_of j))
-    fits cells = record {
-      count = refl;
-      size = refl;
-      parents = λ s l. refl;
-      owns = λ s q l h. refl;
-      links = λ s p q z l h k. refl;
-      rooted = (root_itself j, λ s z l. (both_below j s).1 z);
     }
 
     pub holds_stays : (old new : List (Cell M V)) (τ : Task (Option V)) → Stays old new → Holds old n (stops_of j) τ → Holds new n (stops_of j) τ

@@ -1,9 +1,8 @@
 -- The task that cells and a job hold.
-use Rattle.std.specs.Prelude.{◌≡◌, ℕ, ◌+◌, ◌*◌, ◌<◌, ◌≤◌, Bool, cond, ◌&&◌, List, length, Some, None, Option, ◌==◌, nat_lt}
+use Rattle.std.specs.Prelude.{◌≡◌, ℕ, ◌+◌, ◌*◌, ◌<◌, ◌≤◌, cond, List, length, Some, None, Option}
 use Rattle.measures.specs.Optional.{both}
-use Rattle.std.specs.List.{slice_get}
 use Rattle.measures.specs.Meaning.{MeasureMeaning}
-use Rattle.jobs.specs.Trees.{tie_of, parent_of}
+use Rattle.jobs.specs.Trees.{tie_in, parent_in, child_in}
 use Rattle.jobs.specs.declared.stops.Stop.{Stop}
 use Rattle.jobs.specs.declared.stops.Tie.{Tie}
 use Rattle.jobs.specs.declared.stops.Link.{Link}
@@ -13,18 +12,6 @@ use Rattle.trees.specs.Tasks.{Task, Rooted}
 use Rattle.trees.specs.Minima.{IsLeast, Minimal}
 use Rattle.cells.specs.declared.cell.Cell.{Cell}
 use Rattle.tables.specs.Tables.{leg_in, ride_in, own_in, best_in, hang_in}
-
--- the tie of stop s
-abbrev pub tie_in : List Stop → ℕ → Option Tie
-tie_in stops s = tie_of (slice_get stops s)
-
--- the parent of stop s; the root counts as its own
-abbrev pub parent_in : List Stop → ℕ → ℕ
-parent_in stops s = parent_of (tie_in stops s)
-
--- stop c hangs on stop s
-abbrev pub child_in : List Stop → ℕ → ℕ → Bool
-child_in stops s c = nat_lt 0 c && parent_in stops c == s
 
 -- the leg or the ride, by the kind of link
 abbrev pub by_link : {V : Type 0} → Link → Option V → Option V → Option V

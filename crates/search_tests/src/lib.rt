@@ -13,8 +13,8 @@ use leaders::advancing::advance;
 use leaders::rows::find_head;
 use measures::Measure;
 use measures::optional::join_options;
-use minima::links::{link_at, parent_at};
-use minima::subtrees::fill_minima;
+use minima::board::BoardMut;
+use minima::links::link_at;
 use tables::access::{cell_at, stop_at};
 use waiting::picking::find_next;
 use waiting::queue::Waiting;
@@ -78,7 +78,7 @@ fn laid_out<M: Measure>(cells: &[Cell<M, M::Value>], job: &Job, q: usize) -> Ent
     let a = q / 9 % 3;
     let b = q / 3 % 3;
     let c = q % 3;
-    let above = if parent_at(job, 2) == 0 { a } else { b };
+    let above = if job.parent(2) == 0 { a } else { b };
     let first = stop_at(cells, PLACES, STOPS, 0, a).own;
     let second = join_options::<M>(
         stop_at(cells, PLACES, STOPS, 1, b).own,
@@ -162,7 +162,7 @@ fn run<M: Measure>(cells: &mut [Cell<M, M::Value>], job: &Job, seed: u64) -> Res
         return Err(Wrong::Setting);
     }
     fill::<M>(cells, seed);
-    fill_minima::<M>(cells, PLACES, job);
+    BoardMut::new(cells, PLACES, job).fill_minima();
     let waiting = Waiting {
         n: PLACES,
         job,

@@ -38,24 +38,15 @@ pub fn cell_at<M, V: Copy>(cells: &[Cell<M, V>], at: usize) -> &Cell<M, V>
     &cells[at]
 }
 
-// The cell of a pair of places.
-#[tactic(auto, unfolding(crate::specs::Tables::leg_in, crate::specs::Tables::ride_in))]
+// The cell of a pair of places; that of a place paired with itself has the kind of the place.
+#[tactic(auto, unfolding(crate::specs::Tables::leg_in, crate::specs::Tables::ride_in, crate::specs::Tables::kind_in))]
 pub fn pair_at<M, V: Copy>(cells: &[Cell<M, V>], n: usize, a: usize, b: usize) -> &Cell<M, V>
     requires { (a < n) × (b < n) × (n ≤ 64) × (n * n ≤ length cells.now) }
     ensures leg { result.now.leg ≡ leg_in cells.now n a b }
     ensures ride { result.now.ride ≡ ride_in cells.now n a b }
+    ensures kind { a ≡ b → result.now.kind ≡ kind_in cells.now n a }
 {
     let i = pair_place(n, a, b);
-    cell_at(cells, i)
-}
-
-// The cell of a place: that of the place paired with itself.
-#[tactic(auto, unfolding(crate::specs::Tables::kind_in))]
-pub fn place_at<M, V: Copy>(cells: &[Cell<M, V>], n: usize, p: usize) -> &Cell<M, V>
-    requires { (p < n) × (n ≤ 64) × (n * n ≤ length cells.now) }
-    ensures { result.now.kind ≡ kind_in cells.now n p }
-{
-    let i = pair_place(n, p, p);
     cell_at(cells, i)
 }
 

@@ -2,7 +2,7 @@
 use Rattle.std.proofs.Common.{◌≡◌, ℕ, ◌+◌, ◌*◌, ◌<◌, ◌≤◌, List, length, IfSome, Some, None, Option, sym, ap, subst, arith, MatchOption}
 use Rattle.measures.specs.Laws.{Laws}
 use Rattle.measures.specs.Meaning.{MeasureMeaning}
-use Rattle.streets.specs.Meaning.{StreetMeaning}
+use Rattle.streets.specs.Meaning.{StreetMeaning, Sound as StreetSound}
 use Rattle.jobs.specs.declared.job.Job.{Job}
 use Rattle.jobs.specs.declared.stops.Stop.{Stop}
 use Rattle.jobs.specs.Jobs.{stops_of}
@@ -15,14 +15,16 @@ use Rattle.trees.proofs.Lift.{lifted}
 use Rattle.trees.proofs.Firsts.{itself}
 use Rattle.cells.specs.declared.cell.Cell.{Cell}
 use Rattle.cells.specs.Cells.{places_of}
-use Rattle.tables.specs.Tables.{entry_in, Stays, Kept}
+use Rattle.tables.specs.Tables.{hang_in, entry_in, Stays, Kept}
 use Rattle.rides.specs.Cells.{Filled}
 use Rattle.rides.proofs.Still.{still_filled}
 use Rattle.tours.specs.Jobs.{job_meaning}
 use Rattle.tours.specs.Tasks.{task_of}
 use Rattle.tours.specs.Turns.{FirstPlanLeft, NoPlanLeft}
 use Rattle.tours.proofs.Turns.{tour_laws_lem}
-use Rattle.minima.specs.Tables.{Tables}
+use Rattle.minima.specs.Tables.{Holds, Tables}
+use Rattle.minima.specs.Boards.{SameBoard}
+use Rattle.minima.specs.declared.board.BoardMut.{BoardMut}
 use Rattle.jobs.proofs.Ties.{job_tree}
 use Rattle.waiting.specs.Queues.{waiting_in}
 use Rattle.leaders.specs.Leaders.{AllLed, Rows, Givable}
@@ -38,8 +40,27 @@ chosen_if_first σ sound τ H rooted minimal given len E w waits l first = recor
 }
 
 module _ {M V : Type 0} (meaning : MeasureMeaning V) (street : StreetMeaning) (old new : List (Cell M V)) where
-  pub filled_stays : Stays old new → Filled meaning street old → Filled meaning street new
-  filled_stays stays = still_filled meaning street old new (λ i _. stays.legs i) (λ i _. stays.rides i) (λ i _. stays.kinds i)
+  -- what the minima and the own values that are filled in say of the street
+  pub tabled_over : (first owned last : BoardMut M V) → SameBoard first owned → Stays owned.cells.now last.cells.now → StreetSound street → street.places ≡ first.n →
+      Holds owned.cells.now first.n (stops_of first.job.now) (task_of meaning street (job_meaning (stops_of first.job.now))) × Filled meaning street owned.cells.now →
+      ((τ : Task (Option V)) → Holds owned.cells.now owned.n (stops_of owned.job.now) τ → Tables meaning last.cells.now owned.n (stops_of owned.job.now) τ (hang_in last.cells.now owned.n)) →
+      Tabled meaning street (stops_of first.job.now) first.n last.cells.now
+  tabled_over first owned last same stays sound count held tables =
+      let en : owned.n ≡ first.n = same.n in
+      let ej : owned.job ≡ first.job = same.job in
+      let over : (τ : Task (Option V)) → Holds owned.cells.now first.n (stops_of first.job.now) τ → Tables meaning last.cells.now first.n (stops_of first.job.now) τ (hang_in last.cells.now first.n) = rw (en, ej) at tables in record {
+        sound = sound;
+        count = count;
+        filled = still_filled meaning street owned.cells.now last.cells.now (λ i _. stays.legs i) (λ i _. stays.rides i) (λ i _. stays.kinds i) held.1;
+        minima = hang_in last.cells.now first.n;
+        tables = over (task_of meaning street (job_meaning (stops_of first.job.now))) held.0;
+      }
+
+  -- the same where the board's cells, places and job go under other names
+  pub tabled_at : (n : ℕ) (j : Job) (first last : BoardMut M V) → first.n ≡ n → first.job.now ≡ j → first.cells.now ≡ old → new ≡ last.cells.now →
+      (StreetSound street → street.places ≡ first.n → Filled meaning street first.cells.now → Tabled meaning street (stops_of first.job.now) first.n last.cells.now) →
+      StreetSound street → street.places ≡ n → Filled meaning street old → Tabled meaning street (stops_of j) n new
+  tabled_at n j first last en ej ec el tabled = rw el (rw (en, ej, ec) at tabled)
 
   filled_kept : (k : ℕ) → street.places * street.places ≤ k → Kept k old new → Filled meaning street old → Filled meaning street new
   filled_kept k le kept = still_filled meaning street old new (λ i l. ap (λ (c : Cell M V). c.leg) (kept i (omega arith))) (λ i l. ap (λ (c : Cell M V). c.ride) (kept i (omega arith))) (λ i l. ap (λ (c : Cell M V). c.kind) (kept i (omega arith)))

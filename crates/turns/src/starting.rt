@@ -2,24 +2,23 @@ ghost use Rattle.std.specs.Prelude.{◌≡◌, ◌≤◌, length};
 ghost use Rattle.streets.specs.Meaning.{StreetMeaning, Sound};
 ghost use Rattle.jobs.specs.Jobs.{stops_of};
 ghost use Rattle.rides.specs.Cells.{Filled};
-ghost use Rattle.minima.specs.Tables.{Ready};
+ghost use Rattle.minima.specs.Boards.{SameBoard};
 ghost use Rattle.turns.specs.Standing.{behind_tables, needed, Tabled, Waits, Begun};
 
 use crate::order::Order;
 use cells::cell::Cell;
 use fitting::owns::fill_own;
-use jobs::job::Job;
 use measures::Measure;
-use minima::subtrees::fill_minima;
+use minima::board::BoardMut;
 use waiting::queue::Waiting;
 
 // Fills in the job's own values and subtree minima over the street that the cells hold.
-fn fill_tables<M: Measure>(cells: &mut [Cell<M, M::Value>], n: usize, job: &Job)
-    requires { Ready cells.old n (stops_of job.now) }
-    ensures { (street : StreetMeaning) → Sound street → street.places ≡ n → Filled M.Measure.meaning street cells.old → Tabled M.Measure.meaning street (stops_of job.now) n cells.new }
+fn fill_tables<M: Measure>(board: &mut BoardMut<'_, M, M::Value>)
+    ensures same { SameBoard board.old board.new }
+    ensures tabled { let o = board.old in (street : StreetMeaning) → Sound street → street.places ≡ o.n → Filled M.Measure.meaning street o.cells.now → Tabled M.Measure.meaning street (stops_of o.job.now) o.n board.new.cells.now }
 {
-    fill_own::<M>(cells, n, job);
-    fill_minima::<M>(cells, n, job);
+    fill_own::<M>(board);
+    board.fill_minima();
 }
 
 impl<'a> Order<'a> {
@@ -52,7 +51,8 @@ impl<'a> Order<'a> {
         requires { let o = self.now in let m = length (stops_of o.job.now) in (needed o.n m o.k ≤ length cells.old) × (base ≡ behind_tables o.n m) × (base ≤ 4864) }
         ensures { let o = self.now in Begun M.Measure.meaning (stops_of o.job.now) o.n o.k cells.old cells.new }
     {
-        fill_tables::<M>(cells, self.n, self.job);
+        let mut board = BoardMut::new(cells, self.n, self.job);
+        fill_tables::<M>(&mut board);
         self.wait_behind::<M>(cells, base);
     }
 

@@ -3,10 +3,11 @@ use Rattle.std.proofs.Common.{◌≡◌, ℕ, ◌+◌, ◌*◌, ◌<◌, ◌≤�
 use Rattle.std.proofs.lemmas.Nat.{mul-add-lt}
 use Rattle.measures.specs.Meaning.{MeasureMeaning}
 use Rattle.jobs.specs.declared.stops.Stop.{Stop}
+use Rattle.jobs.specs.Trees.{tie_in}
 use Rattle.trees.specs.Tasks.{Task}
 use Rattle.cells.specs.declared.cell.Cell.{Cell}
 use Rattle.tables.specs.Tables.{blank, leg_in, ride_in, own_in, hang_in, entry_in, Kept}
-use Rattle.minima.specs.Tables.{by_tie, tie_in, link_in, Tables}
+use Rattle.minima.specs.Tables.{by_tie, link_in, Tables}
 
 module _ {M V : Type 0} (old new : List (Cell M V)) (n k : ℕ) (stops : List Stop) (behind : n * n + length stops * n ≤ k) (kept : Kept k old new) where
   own_kept : (s q : ℕ) → s < length stops → q < n → own_in new n s q ≡ own_in old n s q

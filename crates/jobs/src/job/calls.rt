@@ -1,11 +1,11 @@
-ghost use Rattle.std.specs.Prelude.{◌≡◌, ◌≤◌, [], ◌∷◌, ◌++◌, length, MatchResult};
+ghost use Rattle.std.specs.Prelude.{◌≡◌, ◌<◌, ◌≤◌, [], ◌∷◌, ◌++◌, length, MatchResult};
 ghost use Rattle.std.specs.List.{slice_get};
-ghost use Rattle.jobs.specs.Trees.{AllTied, Tree, any_stop, judged, counted};
+ghost use Rattle.jobs.specs.Trees.{AllTied, Tree, any_stop, tie_in, parent_in, child_in, judged, counted};
 ghost use Rattle.jobs.specs.Jobs.{drafted, stops_of};
 ghost use Rattle.jobs.specs.declared.stops.Refused.TheVariants.{Empty};
 
 use super::{Draft, Job};
-use crate::stops::{Refused, Stop};
+use crate::stops::{Refused, Stop, Tie};
 
 impl Draft {
     // A draft without stops.
@@ -101,6 +101,29 @@ impl Job {
         ensures { result ≡ slice_get (stops_of self.now) s }
     {
         self.stops().get(s).copied()
+    }
+
+    // How a stop hangs on its parent; none for the root, and past the last stop.
+    pub fn tie(&self, s: usize) -> Option<Tie>
+        ensures { result ≡ tie_in (stops_of self.now) s }
+    {
+        self.stop(s)?.tie
+    }
+
+    // A stop's parent; the root counts as its own.
+    #[tactic(auto, using(crate::proofs::Ties::parent_below))]
+    pub fn parent(&self, s: usize) -> usize
+        ensures told { result ≡ parent_in (stops_of self.now) s }
+        ensures below { s < length (stops_of self.now) → result ≤ s }
+    {
+        self.tie(s).map_or(0, |tie| usize::from(tie.parent))
+    }
+
+    // Whether stop c hangs on stop s.
+    pub fn hangs_on(&self, c: usize, s: usize) -> bool
+        ensures { result ≡ child_in (stops_of self.now) s c }
+    {
+        c > 0 && self.parent(c) == s
     }
 
     // Puts the draft's stops in the place of the job's and tells how many they are; an empty draft is refused and

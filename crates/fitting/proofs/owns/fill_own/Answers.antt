@@ -8,12 +8,13 @@ use Rattle.fitting.proofs.Holding.{street_held}
 use Rattle.fitting.proofs.owns.fill_own.Goals as goal
 
 pub returns : goal.returns
-returns g c = let m = g.M.Measure.meaning in
-    let inside : (s q : ℕ) → s < length (stops_of c.args.job.now) → q < c.args.n → s * c.args.n + q < length (stops_of c.args.job.now) * c.args.n = λ s q l h. let x = mul-add-lt s c.args.n q (length (stops_of c.args.job.now)) l h in omega arith in
-    let owns : (s q : ℕ) → s < length (stops_of c.args.job.now) → q < c.args.n → own_in c.fill_rows.new.cells c.args.n s q ≡ own_by g.M.Measure.meaning c.args.cells.now c.args.n (stops_of c.args.job.now) s q = λ s q l h. c.fill_rows.ensures.owns s q h (omega arith) (inside s q l h) in record {
-      size = c.fill_rows.auto.cells;
-      only = c.fill_rows.ensures.only;
-      others = λ i x. c.fill_rows.ensures.others i (⊎_elim (λ h. inl (omega arith)) inr x);
+returns g c = let m = g.M.Measure.meaning in let o = c.args.board.now in let new = c.fill_rows.new.board in let owned = c.fill_rows.ensures.owned in
+    let inside : (s q : ℕ) → s < length (stops_of c.args.board.now.job.now) → q < c.args.board.now.n → s * c.args.board.now.n + q < length (stops_of c.args.board.now.job.now) * c.args.board.now.n = λ s q l h. let x = mul-add-lt s o.n q (length (stops_of o.job.now)) l h in omega arith in
+    let owns : (s q : ℕ) → s < length (stops_of c.args.board.now.job.now) → q < c.args.board.now.n → own_in c.fill_rows.new.board.cells.now c.args.board.now.n s q ≡ own_by g.M.Measure.meaning c.args.board.now.cells.now c.args.board.now.n (stops_of c.args.board.now.job.now) s q = λ s q l h. owned.owns s q h (omega arith) (let x = inside s q l h in omega arith) in record {
+      same = c.fill_rows.ensures.same;
+      size = c.fill_rows.ensures.same.room;
+      only = owned.only;
+      others = λ i x. owned.others i (⊎_elim (λ h. inl (omega arith)) (λ h. inr (omega arith)) x);
       owns = owns;
-      holds = street_held m g.met.M.Measure.lawful.laws c.args.n (stops_of c.args.job.now) (job_tree c.args.job.now) c.args.cells.now c.fill_rows.new.cells c.fill_rows.ensures.only owns;
+      holds = street_held m g.met.M.Measure.lawful.laws o.n (stops_of o.job.now) (job_tree o.job.now) o.cells.now new.cells.now owned.only owns;
     }

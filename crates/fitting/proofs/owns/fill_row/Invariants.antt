@@ -1,7 +1,7 @@
-use Rattle.std.proofs.Common.{◌≡◌, ℕ, ◌+◌, ◌*◌}
-use Rattle.jobs.specs.Jobs.{stops_of}
-use Rattle.fitting.specs.Owns.{Owned}
+use Rattle.std.proofs.Common.{◌≡◌, ℕ, ◌*◌}
+use Rattle.minima.specs.Boards.{SameBoard}
+use Rattle.fitting.specs.Owns.{OwnedBoard}
 use Rattle.fitting.proofs.owns.fill_row.Given as goal
 
 abbrev pub invariant-loop-q : goal.invariant-loop-q
-invariant-loop-q g l = (b : ℕ) → b ≡ l.s * l.n + l.q → Owned g.M.Measure.meaning l.n (stops_of l.job) (l.s * l.n) b l.initial.cells l.cells
+invariant-loop-q g l = let o = l.initial.board in SameBoard o l.board × ((k : ℕ) → k ≡ l.q → OwnedBoard g.M.Measure.meaning (l.s * o.n) k o l.board)

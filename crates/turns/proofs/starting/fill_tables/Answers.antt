@@ -1,15 +1,6 @@
-use Rattle.jobs.specs.Jobs.{stops_of}
-use Rattle.tables.specs.Tables.{hang_in}
-use Rattle.tours.specs.Jobs.{job_meaning}
-use Rattle.tours.specs.Tasks.{task_of}
-use Rattle.turns.proofs.Stands.{filled_stays}
+use Rattle.turns.proofs.Stands.{tabled_over}
 use Rattle.turns.proofs.starting.fill_tables.Goals as goal
 
-pub returns : goal.returns
-returns g c = λ street sound count filled. let meaning = g.M.Measure.meaning in let held = c.fill_own.ensures.holds street sound count filled in record {
-  sound = sound;
-  count = count;
-  filled = filled_stays meaning street c.fill_own.new.cells c.fill_minima.new.cells c.fill_minima.ensures.stays held.1;
-  minima = hang_in c.fill_minima.new.cells c.args.n;
-  tables = c.fill_minima.ensures.tables (task_of meaning street (job_meaning (stops_of c.args.job.now))) held.0;
-}
+pub returns-clause-tabled : goal.returns-clause-tabled
+returns-clause-tabled g c = λ street sound count filled. tabled_over g.M.Measure.meaning street c.args.board.now.cells.now c.args.board.now.cells.now c.args.board.now c.fill_own.new.board c.fill_minima.new.self
+    c.fill_own.ensures.same c.fill_minima.ensures.stays sound count (c.fill_own.ensures.holds street sound count filled) c.fill_minima.ensures.tables

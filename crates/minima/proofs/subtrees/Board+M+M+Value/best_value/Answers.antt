@@ -2,8 +2,8 @@ use Rattle.std.proofs.Common.{cond, Some, Option, sym, ap, ◌∙◌}
 use Rattle.measures.specs.Optional.{both}
 use Rattle.measures.specs.Scales.{optional}
 use Rattle.jobs.specs.Jobs.{stops_of}
+use Rattle.jobs.specs.Trees.{child_in}
 use Rattle.tables.specs.Tables.{hang_in}
-use Rattle.minima.specs.Tables.{child_in}
 use Rattle.trees.proofs.Bounds.{total_none, total_more}
 use Rattle.minima.proofs.subtrees.Board+M+M+Value.best_value.Goals as goal
 

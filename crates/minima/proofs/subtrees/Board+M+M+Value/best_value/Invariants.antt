@@ -1,8 +1,8 @@
 use Rattle.std.proofs.Common.{◌≡◌, cond, Some}
 use Rattle.jobs.specs.Jobs.{stops_of}
+use Rattle.jobs.specs.Trees.{child_in}
 use Rattle.measures.specs.Scales.{optional, total}
 use Rattle.tables.specs.Tables.{hang_in}
-use Rattle.minima.specs.Tables.{child_in}
 use Rattle.minima.proofs.subtrees.Board+M+M+Value.best_value.Given as goal
 
 abbrev pub invariant-loop-c : goal.invariant-loop-c
