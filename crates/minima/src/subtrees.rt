@@ -33,6 +33,7 @@ impl<'a, M: Measure> Board<'a, M, M::Value> {
         ensures { result ≡ both M.Measure.meaning.joined (own_in self.now.cells.now self.now.n s q) (hanging_in M.Measure.meaning self.now.cells.now self.now.n (stops_of self.now.job.now) s q) }
     {
         let mut sum = Some(M::ZERO);
+        // by number: the tables are read by it, and `hangs_on` asks for it
         for c in 0..self.job.len() {
             sum = self.with_hanging(sum, s, q, c);
         }
@@ -56,7 +57,9 @@ impl<'a, M: Measure> Board<'a, M, M::Value> {
 impl<'a, M: Measure> BoardMut<'a, M, M::Value> {
     ghost use Rattle.minima.specs.Boards.{SameBoard, BestTo, HangTo};
 
-    // Fills in the least values of the subtree of stop s, place by place.
+    // Fills in the least values of the subtree of stop s, place by place. It, `fill_hang` and the row of own values in
+    // `fitting` are a loop each: with one loop over a trait of columns, which was tried, value, writer and facts of each
+    // column are members of the trait, and the three are longer than the loops.
     #[tactic(auto, using(crate::proofs::Filling::best_none))]
     fn fill_best(&mut self, s: usize)
         requires { s < length (stops_of self.old.job.now) }
