@@ -29,7 +29,8 @@ fn fitting<S: Street>(street: &S, stop: Stop) -> PlaceSet
     set
 }
 
-// That set with its size and its least place.
+// That set with its size and its least place. Its answer stands in proofs/: named at the function, one lemma for all three facts
+// was tried and not found, since the fact of the set speaks of every place.
 fn chosen<S: Street>(street: &S, stop: Stop) -> Choices
     ensures { Chosen (S.Street.meaning street.now) stop.kind result }
 {

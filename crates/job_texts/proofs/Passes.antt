@@ -1,9 +1,15 @@
 -- How far a pass over the rows of a job text has come, and that its faults say job.
-use Rattle.std.proofs.Common.{ℕ, eqb, ltb, List, ◌++◌, length, drop, Some, None, Ok, Err, Option, Result, refl}
+use Rattle.std.proofs.Common.{◌≡◌, ℕ, eqb, ltb, List, ◌++◌, length, drop, Some, None, Ok, Err, Option, Result, refl}
 use Rattle.jobs.specs.declared.stops.Stop.{Stop}
 use Rattle.faults.specs.declared.LineFault.{LineFault}
 use Rattle.faults.specs.declared.Spot.{Spot}
-use Rattle.faults.specs.Faults.{next_field}
+use Rattle.faults.specs.declared.Text.TheVariants.{Job}
+use Rattle.faults.specs.declared.Cause.TheVariants.{Line}
+use Rattle.faults.specs.Faults.{next_field, fault_in, in_text}
+use Rattle.texts.specs.Cut.{rows}
+use Rattle.texts.specs.Rows.{read_rows}
+use Rattle.texts.proofs.Steps.{turned}
+use Rattle.job_texts.specs.Texts.{job_lines}
 use Rattle.texts.specs.Numbers.{number_in, number_or_dash_in, letter_in}
 use Rattle.texts.specs.Rules.{is}
 use Rattle.texts.proofs.Says.{Says, either_says, then_says, number_says, dash_says}
@@ -37,3 +43,7 @@ line_says s t fs =
     either_says _ (is 83 (letter_in fs)) _ _
     (either_says _ (eqb (length fs) 5) _ _ (then_says _ (parts_of (next_field s) (drop 1 fs)) _ (parts_say (next_field s) (drop 1 fs)) (judged_says (next_field s) t)) refl)
     refl
+
+-- so the fault of a job text says that it stands in a job
+pub job_refused : (text : List ℕ) (f : LineFault) → read_rows job_lines 0 1 (rows text) ≡ Err f → (read_rows job_lines 0 1 (rows text) ≡ Err f) × (in_text f ≡ fault_in Job (Line f))
+job_refused text f e = (e, turned job_lines line_says 0 1 (rows text) f e)

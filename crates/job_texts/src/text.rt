@@ -24,6 +24,7 @@ fn read_rows(text: &[u8]) -> Result<Draft, LineFault>
     Ok(draft)
 }
 
+#[tactic(auto, using(crate::proofs::Passes::job_refused))]
 // The stops of a whole text, which must not be too long.
 fn read_draft(text: &[u8]) -> Result<Draft, TextFault>
     ensures { drafted_in result ≡ read_text job_lines 0 text.now }

@@ -12,6 +12,11 @@ use Rattle.plans.specs.Computed.{lesser}
 pub none_some : {V : Type 0} {x : V} → None ≡ Some x → ⊥
 none_some e = let z : ◌≡◌ {A = ℕ} 0 1 = cc in omega arith
 
+-- a walk by places below k is one by places up to k
+pub widen : {V : Type 0} {m : MeasureMeaning V} {s : StreetMeaning} {k a b : ℕ} {v : V} → Via m s k a b v → Via m s (k + 1) a b v
+widen (leg e) = leg e
+widen (onward e l w) = onward e (omega arith) (widen w)
+
 module _ {V : Type 0} (m : MeasureMeaning V) (laws : Laws m.nought m.joined m.before) where
   pub same_before : (x : V) → m.before x x ≡ true
   same_before x = ⊎_elim (λ h. h) (λ h. h) (laws.total x x)
@@ -56,10 +61,6 @@ module _ {V : Type 0} (m : MeasureMeaning V) (laws : Laws m.nought m.joined m.be
   either_is None q x e = inr e
 
   module _ (s : StreetMeaning) where
-    pub widen : {k a b : ℕ} {v : V} → Via m s k a b v → Via m s (k + 1) a b v
-    widen (leg e) = leg e
-    widen (onward e l w) = onward e (omega arith) (widen w)
-
     append : {k a c b : ℕ} {v w : V} → c < k → Via m s k a c v → Via m s k c b w → Via m s k a b (m.joined v w)
     append l (leg e) u = onward e l u
     append {k} {a} {c} {b} l (onward {v = x} {w = y} e h t) u = subst (λ (z : V). Via m s k a b z) (sym (laws.assoc x y _)) (onward e h (append l t u))

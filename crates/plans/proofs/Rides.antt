@@ -36,7 +36,7 @@ module _ {V : Type 0} (m : MeasureMeaning V) (laws : Laws m.nought m.joined m.be
   unfolding ride_over
   over_best s zero a b = best_start m laws s a b _ refl
   over_best s (suc k) a b = subst (λ (n : ℕ). Best m s n a b (ride_over m s (suc k) a b)) (add-one k) (record {
-    some_walk = step_walk m laws s k a b _ _ _ (λ x e. widen m laws s ((over_best s k a b).some_walk x e)) (λ x e. widen m laws s ((over_best s k a k).some_walk x e)) (λ x e. widen m laws s ((over_best s k k b).some_walk x e));
+    some_walk = step_walk m laws s k a b _ _ _ (λ x e. widen ((over_best s k a b).some_walk x e)) (λ x e. widen ((over_best s k a k).some_walk x e)) (λ x e. widen ((over_best s k k b).some_walk x e));
     none_below = step_below m laws s k a b _ _ _ (over_best s k a b).none_below (over_best s k a k).none_below (over_best s k k b).none_below;
   })
 

@@ -1,6 +1,7 @@
 -- Writing the cell of a pair.
 use Rattle.std.proofs.Common.{◌≡◌, ℕ, ◌+◌, ◌*◌, ◌/◌, ◌%◌, ◌<◌, ◌≢◌, List, length, get_or, set, sym, ap, ◌∙◌, arith}
-use Rattle.std.proofs.lemmas.List.{get_or_default, get_or-set_same, get_or-set_other, length-set}
+use Rattle.std.proofs.Math.Seq.{map-set_same}
+use Rattle.std.proofs.lemmas.List.{drop-set-lt, get_or_default, get_or-set_same, get_or-set_other, length-set}
 use Rattle.std.proofs.lemmas.Nat.{div-mul-add, mod-mul-add}
 use Rattle.tables.specs.Tables.{blank, leg_in, ride_in, kind_in}
 use Rattle.cells.specs.declared.cell.Cell.{Cell}
@@ -84,3 +85,6 @@ kind_written cells n p i at within hp x l r = record {
   legs = same_legs cells n p p i at within x l;
   rides = same_rides cells n p p i at within x r;
 }
+
+-- what a write leaves: a part of each cell, and the cells behind
+pub ruleset left_by_write = (map-set_same, drop-set-lt)

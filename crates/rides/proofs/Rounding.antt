@@ -41,6 +41,25 @@ module _ {X : Type 0} (n i j : ℕ) (D E : ℕ → ℕ → X) (others : (a b : �
       as_was : (a ≡ i → b ≡ j → ⊥) → P a b (E a b)
       as_was ne = subst (λ (o : X). P a b o) (sym (others a b ha hb ne)) (else' ne)
 
+-- the ends of a row and of a round
+module _ {V : Type 0} (m : MeasureMeaning V) (s : StreetMeaning) (n k : ℕ) (D : ℕ → ℕ → Option V) where
+  pub round_start : Full m s n k D → Mid m s n k 0 0 D
+  round_start full = record {
+    some_walk = λ a b ha hb x e. widen ((full.best a b ha hb).some_walk x e);
+    none_below = λ a b ha hb v t. (full.best a b ha hb).none_below v t;
+    done_below = λ a b ha hb past. absurd (none_passed a b past);
+  }
+
+  pub row_end : (i j : ℕ) → j ≡ n → Mid m s n k i j D → Mid m s n k (i + 1) 0 D
+  row_end i j e mid = record {
+    some_walk = mid.some_walk;
+    none_below = mid.none_below;
+    done_below = λ a b ha hb past. mid.done_below a b ha hb (rw e (next_row n i a b hb past));
+  }
+
+  pub round_end : (i : ℕ) → i ≡ n → Mid m s n k i 0 D → Full m s n (k + 1) D
+  round_end i e mid = record { best = λ a b ha hb. record { some_walk = mid.some_walk a b ha hb; none_below = mid.done_below a b ha hb (rw e (inl ha)) } }
+
 module _ {V : Type 0} (m : MeasureMeaning V) (laws : Laws m.nought m.joined m.before) (s : StreetMeaning) (n k : ℕ) (kn : k < n) where
   -- one pair: p is what led from i to k when the row began
   module _ (i j : ℕ) (hi : i < n) (hj : j < n) (p : Option V) (D E : ℕ → ℕ → Option V)
@@ -58,17 +77,10 @@ module _ {V : Type 0} (m : MeasureMeaning V) (laws : Laws m.nought m.joined m.be
     pub mid_step : Mid m s n k i (j + 1) E
     mid_step = record {
       some_walk = λ a b ha hb. by_entry n i j D E others a b (λ a b o. (x : V) → o ≡ Some x → Via m s (k + 1) a b x) ha hb here_walk (λ _. mid.some_walk a b ha hb);
-      none_below = λ a b ha hb. by_entry n i j D E others a b (λ a b o. (v : V) → Via m s k a b v → Reaches m o v) ha hb (λ v t. here_below v (widen m laws s t)) (λ _. mid.none_below a b ha hb);
+      none_below = λ a b ha hb. by_entry n i j D E others a b (λ a b o. (v : V) → Via m s k a b v → Reaches m o v) ha hb (λ v t. here_below v (widen t)) (λ _. mid.none_below a b ha hb);
       done_below = λ a b ha hb past. by_entry n i j D E others a b (λ a b o. (v : V) → Via m s (k + 1) a b v → Reaches m o v) ha hb here_below
           (λ ne. mid.done_below a b ha hb (passed_more i j a b ne past));
     }
-
-  pub row_end : (i : ℕ) (D : ℕ → ℕ → Option V) → Mid m s n k i n D → Mid m s n k (i + 1) 0 D
-  row_end i D mid = record {
-    some_walk = mid.some_walk;
-    none_below = mid.none_below;
-    done_below = λ a b ha hb past. mid.done_below a b ha hb (next_row n i a b hb past);
-  }
 
   lesser_none : (o q : Option V) (v : V) → Reaches m (lesser m.before o (both m.joined None q)) v → Reaches m o v
   lesser_none (Some x) q v h = h
@@ -87,13 +99,3 @@ module _ {V : Type 0} (m : MeasureMeaning V) (laws : Laws m.nought m.joined m.be
     own : (b : ℕ) → b < n → (v : V) → Via m s (k + 1) i b v → Reaches m (D i b) v
     own b hb v t = lesser_none (D i b) (D k b) v (step_below m laws s k i b (D i b) None (D k b) (mid.none_below i b hi hb)
         (λ u w. subst (λ (o : Option V). Reaches m o u) none (mid.none_below i k hi kn u w)) (mid.none_below k b kn hb) v t)
-
-  pub round_start : (D : ℕ → ℕ → Option V) → Full m s n k D → Mid m s n k 0 0 D
-  round_start D full = record {
-    some_walk = λ a b ha hb x e. widen m laws s ((full.best a b ha hb).some_walk x e);
-    none_below = λ a b ha hb v t. (full.best a b ha hb).none_below v t;
-    done_below = λ a b ha hb past. absurd (none_passed a b past);
-  }
-
-  pub round_end : (D : ℕ → ℕ → Option V) → Mid m s n k n 0 D → Full m s n (k + 1) D
-  round_end D mid = record { best = λ a b ha hb. record { some_walk = mid.some_walk a b ha hb; none_below = mid.done_below a b ha hb (inl ha) } }

@@ -23,6 +23,7 @@ impl<'a, M: Measure> PairTable<'a, M, M::Value> {
         self.set_ride(i, j, best);
     }
 
+    #[tactic(auto, using(crate::proofs::Rounding::row_end))]
     // One row of round k: the pairs from i. Without a way from i to k there is nothing to do.
     fn relax_row(&mut self, k: usize, i: usize)
         requires { (i < self.old.n) × (k < self.old.n) }
@@ -37,13 +38,14 @@ impl<'a, M: Measure> PairTable<'a, M, M::Value> {
         }
     }
 
+    #[tactic(auto, using(crate::proofs::Rounding::round_start, crate::proofs::Rounding::round_end))]
     // Round k: ways by place k are taken where they are the lesser.
     fn relax_round(&mut self, k: usize)
         requires { k < self.old.n }
         ensures rides { (s : StreetMeaning) → FullBelow M.Measure.meaning s k self.old → FullBelow M.Measure.meaning s (k + 1) self.new }
         ensures kept { RidesChanged self.old self.new }
     {
-        for i in 0..self.places() {
+        for i in 0..self.n {
             self.relax_row(k, i);
         }
     }

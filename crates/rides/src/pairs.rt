@@ -55,6 +55,7 @@ impl<'a, M, V: Copy> PairTable<'a, M, V> {
         self.cells[i].ride = ride;
     }
 
+    #[tactic(auto, using(crate::proofs::CellWrites::left_by_write))]
     // Writes the ride from a to b.
     pub(crate) fn set_ride(&mut self, a: usize, b: usize, ride: Option<V>)
         requires { (a < self.old.n) × (b < self.old.n) }

@@ -9,8 +9,6 @@ use crate::legs::Leg;
 pub trait Street {
     ghost meaning: { Self → StreetMeaning };
 
-    ghost sound: { (s : Self) → Sound (meaning s) };
-
     // How many places there are.
     fn places(&self) -> usize
         ensures { result ≡ (meaning self.now).places };
@@ -22,4 +20,6 @@ pub trait Street {
     // The leg from one place to another, if there is one.
     fn leg(&self, from: usize, to: usize) -> Option<Leg>
         ensures { result ≡ (meaning self.now).leg from to };
+
+    ghost sound: { (s : Self) → Sound (meaning s) };
 }

@@ -8,7 +8,7 @@ use Rattle.choices.proofs.chosen.Goals as goal
 pub returns : goal.returns
 returns g c =
     let m = g.S.Street.meaning c.args.street.now in
-    let few = (g.S.Street.sound c.args.street.now).few in
+    let few = (g.met.S.Street.sound c.args.street.now).few in
     let has = has_bit c.fitting-set.result.bits in
     record {
       set = c.fitting-set.ensures;

@@ -1,15 +1,10 @@
 use Rattle.std.proofs.Common.{rules, sym, ◌∙◌}
-use Rattle.std.proofs.lemmas.Bool.{ltb-true, ltb-false}
-use Rattle.rides.proofs.Starting.{short_fills}
+use Rattle.std.proofs.lemmas.Bool.{ltb-false}
 use Rattle.rides.proofs.Filling.{table_fills}
 use Rattle.rides.proofs.table.fill.Goals as goal
 
-pub returns-then-lacks_room : goal.returns-then-lacks_room
-returns-then-lacks_room g c = short_fills g.M.Measure.meaning (g.S.Street.meaning c.args.street.now) c.places_of-n.result c.args.cells.now _ c.places_of-n.ensures.0
-    (ltb-true _ _ (sym c.lacks_room.ensures ∙ c.if-lacks_room.true))
-
 pub returns : goal.returns
-returns g c = table_fills g.M.Measure.meaning g.met.M.Measure.lawful.laws (g.S.Street.meaning c.args.street.now) (g.S.Street.sound c.args.street.now)
+returns g c = table_fills g.M.Measure.meaning g.met.M.Measure.lawful.laws (g.S.Street.meaning c.args.street.now) (g.met.S.Street.sound c.args.street.now)
     c.places_of-n.result c.args.cells.now _ c.new-table.result c.start.new.self c.close.new.self
     c.places_of-n.ensures.0 (ltb-false _ _ (sym c.lacks_room.ensures ∙ c.if-lacks_room.false)) c.new-table.ensures.same.0 c.new-table.ensures.cells
     c.start.ensures.started c.start.ensures.kept (c.close.ensures.rides (g.S.Street.meaning c.args.street.now)) c.close.ensures.kept (search rules)

@@ -2,7 +2,7 @@ use Rattle.std.proofs.Common.{rules, ◌≡◌, ℕ, ◌+◌, ◌<◌, Some, Opt
 use Rattle.plans.specs.Between.{Reaches}
 use Rattle.tables.specs.Tables.{ride_in}
 use Rattle.rides.specs.Rounds.{Mid}
-use Rattle.rides.proofs.Rounding.{mid_step, row_end, row_skip}
+use Rattle.rides.proofs.Rounding.{mid_step, row_skip}
 use Rattle.rides.proofs.closure.PairTable+M+M+Value.relax_row.Goals as goal
 
 pub returns-in_default-clause-rides : goal.returns-in_default-clause-rides
@@ -29,14 +29,3 @@ loop-j-preserved g c =
           (c.loop-j.invariant.0 s mid) c.relax.ensures.rides.there c.relax.ensures.rides.others)),
       search rules,
     )
-
-pub returns-clause-rides : goal.returns-clause-rides
-returns-clause-rides g c =
-    let m = g.M.Measure.meaning in
-    let n = c.loop-j.self.n in
-    let D = ride_in c.loop-j.self.cells.now n in
-    let same = c.loop-j.invariant.1.0.0 in
-    let e : c.loop-j.j ≡ n = omega arith in
-    let kn : c.args.k < n = omega arith in
-    λ s mid. row_end m g.met.M.Measure.lawful.laws s n c.args.k kn c.args.i D
-    (subst (λ (j : ℕ). Mid m s n c.args.k c.args.i j D) e (c.loop-j.invariant.0 s mid))
