@@ -2,12 +2,11 @@
 use Rattle.std.specs.Prelude.{ℕ, ◌+◌, ◌-◌, ◌*◌, Bool, cond, ◌&&◌, List, [], ◌∷◌, length, Some, None, Ok, Err, Option, Result, ◌==◌, nat_le, slice_index}
 use Rattle.std.specs.Str.{all_ascii_digits}
 use Rattle.faults.specs.declared.FieldWrong.TheVariants.{NotNumber, AboveBound}
-use Rattle.faults.specs.declared.FieldFault.{FieldFault}
 use Rattle.faults.specs.declared.Spot.{Spot}
 use Rattle.faults.specs.declared.LineFault.{LineFault}
 use Rattle.faults.specs.declared.LineFault.TheVariants.{Field}
 use Rattle.faults.specs.declared.LineWrong.TheVariants.{FieldCount}
-use Rattle.faults.specs.Faults.{field_fault, line_fault, next_field}
+use Rattle.faults.specs.Faults.{FieldFault, field_fault, line_fault, next_field}
 
 -- the value of decimal digits that follow the number n
 abbrev pub decimal_after : ℕ → List ℕ → ℕ
