@@ -27,6 +27,11 @@ numeral bound s cs =
     (cond (nat_le (decimal cs) bound) (Ok (decimal cs)) (Err (field_fault AboveBound s)))
     (Err (field_fault NotNumber s))
 
+-- the number that a value which was read is
+abbrev pub valued : {A B F : Type 0} → (A → B) → Result A F → Result B F
+valued value (Ok a) = Ok (value a)
+valued value (Err f) = Err f
+
 -- a field's fault lies whole inside its line's
 abbrev pub in_line : {A : Type 0} → Result A FieldFault → Result A LineFault
 in_line (Ok v) = Ok v
