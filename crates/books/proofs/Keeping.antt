@@ -28,6 +28,7 @@ some_kind k h = omega arith
 
 module _ (s : Spot) (told : Counts) (room : Room) (fs : List (List ℕ)) where
   place_good : IfOk (place_of s told room fs) (Good room told)
+  unfolding place_of
   place_good =
       then_gives (λ p. p ≤ 63) (Good room told) (number_in 63 s fs) _ (number_gives 63 s fs) (λ p hp.
       then_gives (λ k. k ≤ 255) (Good room told) (number_in 255 (next_field s) (drop 1 fs)) _ (number_gives 255 (next_field s) (drop 1 fs)) (λ k hk.
@@ -37,6 +38,7 @@ module _ (s : Spot) (told : Counts) (room : Room) (fs : List (List ℕ)) where
       (λ _. tt)))
 
   leg_good : IfOk (leg_of s told room fs) (Good room told)
+  unfolding leg_of
   leg_good =
       then_gives (λ a. a ≤ 63) (Good room told) (number_in 63 s fs) _ (number_gives 63 s fs) (λ a ha.
       then_gives (λ b. b ≤ 63) (Good room told) (number_in 63 (next_field s) (drop 1 fs)) _ (number_gives 63 (next_field s) (drop 1 fs)) (λ b hb.
@@ -52,6 +54,7 @@ module _ (s : Spot) (told : Counts) (room : Room) (fs : List (List ℕ)) where
       (λ _. tt)))))
 
 line_good : (s : Spot) (told : Counts) (room : Room) (fs : List (List ℕ)) → IfOk (line_of s told room fs) (Good room told)
+unfolding line_of
 line_good s told room fs =
     either_gives (Good room told) (is 80 (letter_in fs)) _ _
     (λ _. either_gives (Good room told) (eqb (length fs) 3) _ _ (λ _. place_good (next_field s) told room (drop 1 fs)) (λ _. tt))

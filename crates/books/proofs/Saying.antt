@@ -18,12 +18,14 @@ use Rattle.books.specs.Lines.{place_of, leg_of, line_of}
 
 module _ (s : Spot) (told : Counts) (room : Room) (fs : List (List ℕ)) where
   place_says : Says s.text (place_of s told room fs)
+  unfolding place_of
   place_says =
       then_says _ (number_in 63 s fs) _ (number_says 63 s fs) (λ p.
       then_says _ (number_in 255 (next_field s) (drop 1 fs)) _ (number_says 255 (next_field s) (drop 1 fs)) (λ k.
       either_says _ (eqb p told.places) _ _ (either_says _ (eqb k 0) _ _ refl (either_says _ (ltb told.places room.kinds) _ _ tt refl)) refl))
 
   leg_says : Says s.text (leg_of s told room fs)
+  unfolding leg_of
   leg_says =
       then_says _ (number_in 63 s fs) _ (number_says 63 s fs) (λ a.
       then_says _ (number_in 63 (next_field s) (drop 1 fs)) _ (number_says 63 (next_field s) (drop 1 fs)) (λ b.
@@ -32,6 +34,7 @@ module _ (s : Spot) (told : Counts) (room : Room) (fs : List (List ℕ)) where
       either_says _ (ltb a told.places) _ _ (either_says _ (ltb b told.places) _ _ (either_says _ (eqb a b) _ _ refl (either_says _ (ltb told.legs room.legs) _ _ tt refl)) refl) refl))))
 
 pub line_says : (room : Room) (s : Spot) (told : Counts) (fs : List (List ℕ)) → Says s.text (line_of s told room fs)
+unfolding line_of
 line_says room s told fs =
     either_says _ (is 80 (letter_in fs)) _ _ (either_says _ (eqb (length fs) 3) _ _ (place_says (next_field s) told room (drop 1 fs)) refl)
     (either_says _ (is 76 (letter_in fs)) _ _ (either_says _ (eqb (length fs) 5) _ _ (leg_says (next_field s) told room (drop 1 fs)) refl) refl)

@@ -17,7 +17,7 @@ abbrev pub leg_record : ℕ → ℕ → ℕ → ℕ → LegRecord
 leg_record a b c s = record { from = a; to = b; leg = record { climb = c; seconds = s } }
 
 -- a place line: s is the spot of its letter, and fs are the fields that follow: place, kind
-abbrev pub place_of : Spot → Counts → Room → List (List ℕ) → Result Entry LineFault
+unfoldable pub place_of : Spot → Counts → Room → List (List ℕ) → Result Entry LineFault
 place_of s told room fs =
     and_then (number_in 63 s fs) (λ place.
     and_then (number_in 255 (next_field s) (drop 1 fs)) (λ kind.
@@ -27,7 +27,7 @@ place_of s told room fs =
     (bad_field NotNextPlace s 2)))
 
 -- a leg line: from, to, climb, seconds
-abbrev pub leg_of : Spot → Counts → Room → List (List ℕ) → Result Entry LineFault
+unfoldable pub leg_of : Spot → Counts → Room → List (List ℕ) → Result Entry LineFault
 leg_of s told room fs =
     and_then (number_in 63 s fs) (λ from.
     and_then (number_in 63 (next_field s) (drop 1 fs)) (λ to.
@@ -41,7 +41,7 @@ leg_of s told room fs =
     (bad_field UntoldPlace s 2)))))
 
 -- a line: s is the spot before its fields fs, and `P` and `L` are the letters
-abbrev pub line_of : Spot → Counts → Room → List (List ℕ) → Result Entry LineFault
+unfoldable pub line_of : Spot → Counts → Room → List (List ℕ) → Result Entry LineFault
 line_of s told room fs =
     cond (is 80 (letter_in fs))
     (cond (length fs == 3) (place_of (next_field s) told room (drop 1 fs)) (bad_line FieldCount s))

@@ -39,19 +39,18 @@ fn fill(text: &[u8], room: Room, kinds: &mut [u8], legs: &mut [LegRecord]) -> Re
     ensures written { IfOk (book_of (read_rows (book_lines room) (countsOf 0 0) 1 (rows text.now))) (λ b. (kinds.new ≡ over b.kinds kinds.old) × (legs.new ≡ over b.legs legs.old)) }
 {
     let mut entries = Entries::new(text, room);
-    let mut told = entries.told();
     while let Some(entry) = entries.next()? {
+        let told = entries.told();
         match entry {
-            Entry::Place { kind } => kinds[told.places] = kind,
-            Entry::Leg(leg) => legs[told.legs] = leg,
+            Entry::Place { kind } => kinds[told.places - 1] = kind,
+            Entry::Leg(leg) => legs[told.legs - 1] = leg,
         }
-        told = entries.told();
     }
     Ok(())
 }
 
 // Reads a street book. The kinds of the places go to the front of `kinds` and the legs to the front of `legs`; a
-// refused text has written nothing.
+// refused text has written nothing. The lists are the caller's, kinds as bytes and legs as records: a rule of the project.
 pub fn read_book(text: &[u8], kinds: &mut [u8], legs: &mut [LegRecord]) -> Result<Counts, TextFault>
     ensures value { result ≡ tally (read_book (room_in (length kinds.old) (length legs.old)) text.now) }
     ensures sensible { IfOk (read_book (room_in (length kinds.old) (length legs.old)) text.now) Sensible }

@@ -6,7 +6,8 @@ use texts::reader::Reader;
 
 mod steps;
 
-// What the lines of a book tell, one entry after the other.
+// What the lines of a book tell, one entry after the other. It is no `Iterator`: a loop over it also asks what was told so
+// far, and `next` is left by `?`.
 #[derive(Drop)]
 pub(crate) struct Entries<'a> {
     reader: Reader<'a>,

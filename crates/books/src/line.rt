@@ -10,7 +10,7 @@ use texts::number::LAST_KIND;
 use texts::reader::Reader;
 
 // What one line of a book tells.
-#[derive(Clone, Copy)]
+#[derive(Clone, Copy, Debug, PartialEq, Eq)]
 pub enum Entry {
     Place { kind: u8 },
     Leg(LegRecord),
@@ -23,7 +23,8 @@ pub struct Counts {
     pub legs: usize,
 }
 
-// How many kinds and legs there is room for.
+// How many kinds and legs there is room for. A type beside `Counts`, with the fields that the lists have: what was told and
+// what there is room for are compared, and may not stand for each other.
 #[derive(Clone, Copy, Debug, PartialEq, Eq)]
 pub struct Room {
     pub kinds: usize,
@@ -38,12 +39,12 @@ pub struct Progress {
 }
 
 // The most that a place, and a climb or a number of seconds may be.
-const LAST_PLACE: u64 = 63;
+const LAST_PLACE: u8 = 63;
 
-const MOST: u64 = 65535;
+const MOST: u16 = 65535;
 
-// The casts keep what `number` bounded; `try_from` would add an error that cannot come.
 impl Progress {
+    #[tactic(auto, unfolding(crate::specs::Lines::place_of))]
     // A place line after its letter.
     fn read_place(self, reader: &mut Reader) -> Result<Entry, LineFault>
         requires { 1 < length (fields_left reader.old) }
@@ -53,7 +54,7 @@ impl Progress {
     {
         let place = reader.number(LAST_PLACE)?;
         let kind = reader.number(LAST_KIND)?;
-        if place != self.told.places as u64 {
+        if usize::from(place) != self.told.places {
             return Err(reader.field_fault(FieldWrong::NotNextPlace, 2));
         }
         if kind == 0 {
@@ -62,9 +63,10 @@ impl Progress {
         if self.told.places >= self.room.kinds {
             return Err(reader.line_fault(LineWrong::Full));
         }
-        Ok(Entry::Place { kind: kind as u8 })
+        Ok(Entry::Place { kind })
     }
 
+    #[tactic(auto, unfolding(crate::specs::Lines::leg_of))]
     // A leg line after its letter.
     fn read_leg(self, reader: &mut Reader) -> Result<Entry, LineFault>
         requires { 3 < length (fields_left reader.old) }
@@ -76,10 +78,10 @@ impl Progress {
         let to = reader.number(LAST_PLACE)?;
         let climb = reader.number(MOST)?;
         let seconds = reader.number(MOST)?;
-        if from >= self.told.places as u64 {
+        if usize::from(from) >= self.told.places {
             return Err(reader.field_fault(FieldWrong::UntoldPlace, 2));
         }
-        if to >= self.told.places as u64 {
+        if usize::from(to) >= self.told.places {
             return Err(reader.field_fault(FieldWrong::UntoldPlace, 3));
         }
         if from == to {
@@ -88,35 +90,24 @@ impl Progress {
         if self.told.legs >= self.room.legs {
             return Err(reader.line_fault(LineWrong::Full));
         }
-        let leg = Leg {
-            climb: climb as u16,
-            seconds: seconds as u16,
-        };
-        Ok(Entry::Leg(LegRecord {
-            from: from as u8,
-            to: to as u8,
-            leg,
-        }))
+        let leg = Leg { climb, seconds };
+        Ok(Entry::Leg(LegRecord { from, to, leg }))
     }
 
+    #[tactic(auto, unfolding(crate::specs::Lines::line_of))]
     // What the line at hand tells.
     pub fn read_line(self, reader: &mut Reader) -> Result<Entry, LineFault>
         ensures value { result ≡ line_of (spot_of reader.old) self.told self.room (fields_left reader.old) }
         ensures fits { IfOk result (λ e. Fits self.told self.room e) }
         ensures kept { Kept reader.old reader.new }
     {
-        let fields = reader.fields();
         match reader.letter() {
             Some(b'P') => {
-                if fields != 3 {
-                    return Err(reader.line_fault(LineWrong::FieldCount));
-                }
+                reader.expect_fields(2)?;
                 self.read_place(reader)
             }
             Some(b'L') => {
-                if fields != 5 {
-                    return Err(reader.line_fault(LineWrong::FieldCount));
-                }
+                reader.expect_fields(4)?;
                 self.read_leg(reader)
             }
             _ => Err(reader.field_fault(FieldWrong::NotLetter, 1)),

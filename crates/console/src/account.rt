@@ -47,7 +47,7 @@ impl From<InputRefusal> for Refusal {
 }
 
 // On which places a stop can be put.
-#[derive(Clone, Copy)]
+#[derive(Clone, Copy, Debug, PartialEq, Eq)]
 pub struct StopChoices {
     pub stop: usize,
     pub choices: Choices,

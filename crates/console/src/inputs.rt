@@ -13,14 +13,14 @@ use jobs::job::Job;
 use streets::legs::LegRecord;
 
 // How much was read: places and legs, and stops.
-#[derive(Clone, Copy)]
+#[derive(Clone, Copy, Debug, PartialEq, Eq)]
 pub struct Inputs {
     pub street: Counts,
     pub stops: usize,
 }
 
 // Why the console does not go on: a text that it does not read, or a fault in one.
-#[derive(Clone, Copy)]
+#[derive(Clone, Copy, Debug, PartialEq, Eq)]
 pub enum InputRefusal {
     Limit(LimitRefusal),
     Text(TextFault),

@@ -12,7 +12,8 @@ pub enum LimitRefusal {
 }
 
 impl LimitRefusal {
-    // The number that stands for the refusal.
+    // The number that stands for the refusal. No trait for it: each enum's contract names its own table of numbers, and
+    // a trait for all of them would be longer than these bodies.
     pub fn number(self) -> u8
         ensures { result ≡ number_of self }
     {
@@ -20,7 +21,8 @@ impl LimitRefusal {
     }
 }
 
-// Tells before a text is read whether the console reads it, with its length.
+// Tells before a text is read whether the console reads it, with its length. It is no use of `texts::check_length`, whose
+// limit and fault are others: the two share one comparison.
 pub fn admit(text: &[u8]) -> Result<usize, LimitRefusal>
     ensures { result ≡ admitted (length text.now) }
 {

@@ -1,7 +1,6 @@
 -- What the faults of a text say: a number, a line and a field.
 use Rattle.std.specs.Prelude.{ℕ, ◌+◌, Some, None, Option}
 use Rattle.faults.specs.declared.Text.{Text}
-use Rattle.faults.specs.declared.Text.TheVariants.{Book as OfBook, Job as OfJob}
 use Rattle.faults.specs.declared.Spot.{Spot}
 use Rattle.faults.specs.declared.FieldWrong.{FieldWrong}
 use Rattle.faults.specs.declared.FieldWrong.TheVariants.{NotLetter, NotNumber, AboveBound, NotNextPlace, UntoldPlace, SameEnds, KindZero, NotNextStop, WrongParent, WrongLink}
@@ -9,13 +8,12 @@ use Rattle.faults.specs.declared.LineWrong.{LineWrong}
 use Rattle.faults.specs.declared.LineWrong.TheVariants.{Unended, FieldCount, Full}
 use Rattle.faults.specs.declared.TextWrong.{TextWrong}
 use Rattle.faults.specs.declared.TextWrong.TheVariants.{TooLong, NoLines}
-use Rattle.faults.specs.declared.FieldFault.{FieldFault}
+use Rattle.faults.specs.declared.Fault.{Fault}
 use Rattle.faults.specs.declared.LineFault.{LineFault}
 use Rattle.faults.specs.declared.LineFault.TheVariants.{Field, Whole as WholeLine}
 use Rattle.faults.specs.declared.Cause.{Cause}
 use Rattle.faults.specs.declared.Cause.TheVariants.{Whole as WholeText, Line}
 use Rattle.faults.specs.declared.TextFault.{TextFault}
-use Rattle.faults.specs.declared.TextFault.TheVariants.{Book, Job}
 
 -- the number that stands for each fault
 abbrev pub number_of_field : FieldWrong → ℕ
@@ -39,19 +37,23 @@ abbrev pub number_of_text : TextWrong → ℕ
 number_of_text TooLong = 10
 number_of_text NoLines = 24
 
+-- the fault of a field
+abbrev pub FieldFault : Type 0
+FieldFault = Fault FieldWrong
+
 abbrev pub number_in_line : LineFault → ℕ
 number_in_line (Field f) = number_of_field f.wrong
-number_in_line (WholeLine w s) = number_of_line w
+number_in_line (WholeLine f) = number_of_line f.wrong
 
 -- where a line's fault stands
 abbrev pub spot_in_line : LineFault → Spot
 spot_in_line (Field f) = f.at
-spot_in_line (WholeLine w s) = s
+spot_in_line (WholeLine f) = f.at
 
 -- which text a line's fault stands in
 abbrev pub text_of : LineFault → Text
 text_of (Field f) = f.at.text
-text_of (WholeLine w s) = s.text
+text_of (WholeLine f) = f.at.text
 
 abbrev pub number_of_cause : Cause → ℕ
 number_of_cause (WholeText w) = number_of_text w
@@ -70,24 +72,19 @@ abbrev pub spot_of_cause : Cause → Option Spot
 spot_of_cause (WholeText w) = None
 spot_of_cause (Line f) = Some (spot_in_line f)
 
-abbrev pub cause_of : TextFault → Cause
-cause_of (Book c) = c
-cause_of (Job c) = c
-
 -- the number, line and field of a text's fault
 abbrev pub number_of : TextFault → ℕ
-number_of f = number_of_cause (cause_of f)
+number_of f = number_of_cause f.cause
 
 abbrev pub line_of : TextFault → ℕ
-line_of f = line_of_cause (cause_of f)
+line_of f = line_of_cause f.cause
 
 abbrev pub field_of : TextFault → ℕ
-field_of f = field_of_cause (cause_of f)
+field_of f = field_of_cause f.cause
 
 -- a fault of the text that the line stands in
 abbrev pub fault_in : Text → Cause → TextFault
-fault_in OfBook c = Book c
-fault_in OfJob c = Job c
+fault_in t c = record { text = t; cause = c }
 
 -- a line's fault lies whole inside its text's
 abbrev pub in_text : LineFault → TextFault
@@ -105,4 +102,4 @@ abbrev pub field_fault : FieldWrong → Spot → FieldFault
 field_fault w s = record { wrong = w; at = s }
 
 abbrev pub line_fault : LineWrong → Text → ℕ → LineFault
-line_fault w t l = WholeLine w (spot t l 0)
+line_fault w t l = WholeLine (record { wrong = w; at = spot t l 0 })

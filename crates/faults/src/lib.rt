@@ -3,7 +3,7 @@
 ghost use Rattle.std.specs.Prelude.{◌≡◌};
 ghost use Rattle.faults.specs.declared.LineFault.TheVariants.{Field};
 ghost use Rattle.faults.specs.declared.Cause.TheVariants.{Whole};
-ghost use Rattle.faults.specs.Faults.{text_of, in_text, fault_in, number_in_line, spot_in_line, number_of_cause, spot_of_cause, cause_of, number_of, line_of, field_of, field_fault, line_fault, spot as spotAt};
+ghost use Rattle.faults.specs.Faults.{text_of, in_text, fault_in, number_in_line, spot_in_line, number_of_cause, spot_of_cause, number_of, line_of, field_of, field_fault, line_fault, spot as spotAt};
 
 // Which of the two texts: a street book or a job.
 #[derive(Clone, Copy, Debug, PartialEq, Eq)]
@@ -12,7 +12,8 @@ pub enum Text {
     Job,
 }
 
-// A spot in a text. Lines and fields count from 1; field 0 is the line as a whole.
+// A spot in a text. Lines and fields count from 1, and field 0 is the line as a whole: a rule of the formats, in whose
+// numbers a refusal is printed, so the field is no `Option`.
 #[derive(Clone, Copy, Debug, PartialEq, Eq)]
 pub struct Spot {
     pub text: Text,
@@ -65,16 +66,20 @@ pub enum TextWrong {
     NoLines = 24,
 }
 
+// What is wrong, and where.
 #[derive(Clone, Copy, Debug, PartialEq, Eq)]
-pub struct FieldFault {
-    pub wrong: FieldWrong,
+pub struct Fault<W> {
+    pub wrong: W,
     pub at: Spot,
 }
 
+pub type FieldFault = Fault<FieldWrong>;
+
+// What is wrong in a line: a field of it, or the line as a whole.
 #[derive(Clone, Copy, Debug, PartialEq, Eq)]
 pub enum LineFault {
     Field(FieldFault),
-    Whole { wrong: LineWrong, at: Spot },
+    Whole(Fault<LineWrong>),
 }
 
 // What is wrong in a text: the text as a whole, or a line of it.
@@ -84,11 +89,11 @@ pub enum Cause {
     Line(LineFault),
 }
 
-// The fault of a text, and which text it is: callers match on the case, so it is no struct of a text and a cause.
+// The fault of a text, with the text that it is in.
 #[derive(Clone, Copy, Debug, PartialEq, Eq)]
-pub enum TextFault {
-    Book(Cause),
-    Job(Cause),
+pub struct TextFault {
+    pub text: Text,
+    pub cause: Cause,
 }
 
 impl From<FieldFault> for LineFault {
@@ -103,26 +108,21 @@ impl From<LineFault> for TextFault {
     ghost from_gives = { λ f r. r ≡ in_text f };
 
     fn from(fault: LineFault) -> TextFault {
-        fault.text().caused(Cause::Line(fault))
+        let cause = Cause::Line(fault);
+        TextFault {
+            text: fault.text(),
+            cause,
+        }
     }
 }
 
 impl Text {
-    // What is wrong in the text, by its cause.
-    fn caused(self, cause: Cause) -> TextFault
-        ensures { result ≡ fault_in self cause }
-    {
-        match self {
-            Text::Book => TextFault::Book(cause),
-            Text::Job => TextFault::Job(cause),
-        }
-    }
-
     // What is wrong with the text as a whole.
     pub fn fault(self, wrong: TextWrong) -> TextFault
         ensures { result ≡ fault_in self (Whole wrong) }
     {
-        self.caused(Cause::Whole(wrong))
+        let cause = Cause::Whole(wrong);
+        TextFault { text: self, cause }
     }
 }
 
@@ -131,7 +131,7 @@ impl Spot {
     pub fn field_fault(self, wrong: FieldWrong) -> FieldFault
         ensures { result ≡ field_fault wrong self }
     {
-        FieldFault { wrong, at: self }
+        Fault { wrong, at: self }
     }
 
     // What is wrong with a field of the line that the spot is in.
@@ -146,7 +146,7 @@ impl Spot {
         ensures { result ≡ line_fault wrong self.text self.line }
     {
         let at = Spot { field: 0, ..self };
-        LineFault::Whole { wrong, at }
+        LineFault::Whole(Fault { wrong, at })
     }
 }
 
@@ -156,7 +156,7 @@ impl LineFault {
         ensures { result ≡ spot_in_line self }
     {
         match self {
-            LineFault::Field(FieldFault { at, .. }) | LineFault::Whole { at, .. } => at,
+            LineFault::Field(Fault { at, .. }) | LineFault::Whole(Fault { at, .. }) => at,
         }
     }
 
@@ -173,7 +173,7 @@ impl LineFault {
     {
         match self {
             LineFault::Field(fault) => fault.wrong as u8,
-            LineFault::Whole { wrong, .. } => wrong as u8,
+            LineFault::Whole(fault) => fault.wrong as u8,
         }
     }
 }
@@ -201,33 +201,24 @@ impl Cause {
 }
 
 impl TextFault {
-    // What is wrong, inside the text's fault.
-    fn cause(self) -> Cause
-        ensures { result ≡ cause_of self }
-    {
-        match self {
-            TextFault::Book(cause) | TextFault::Job(cause) => cause,
-        }
-    }
-
     // The number that stands for the fault.
     pub fn number(self) -> u8
         ensures { result ≡ number_of self }
     {
-        self.cause().number()
+        self.cause.number()
     }
 
     // The line of the fault, 0 for the whole text.
     pub fn line(self) -> usize
         ensures { result ≡ line_of self }
     {
-        self.cause().spot().map_or(0, |at| at.line)
+        self.cause.spot().map_or(0, |at| at.line)
     }
 
     // The field of the fault, 0 for the whole line.
     pub fn field(self) -> usize
         ensures { result ≡ field_of self }
     {
-        self.cause().spot().map_or(0, |at| at.field)
+        self.cause.spot().map_or(0, |at| at.field)
     }
 }

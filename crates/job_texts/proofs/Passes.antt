@@ -39,6 +39,7 @@ parts_say s fs =
     then_says _ (number_in 255 (next_field (next_field s)) (drop 2 fs)) _ (number_says 255 (next_field (next_field s)) (drop 2 fs)) (λ k. tt)))
 
 pub line_says : (s : Spot) (t : ℕ) (fs : List (List ℕ)) → Says s.text (line_of s t fs)
+unfolding line_of
 line_says s t fs =
     either_says _ (is 83 (letter_in fs)) _ _
     (either_says _ (eqb (length fs) 5) _ _ (then_says _ (parts_of (next_field s) (drop 1 fs)) _ (parts_say (next_field s) (drop 1 fs)) (judged_says (next_field s) t)) refl)

@@ -50,7 +50,7 @@ abbrev pub stop_of : Spot → ℕ → List (List ℕ) → Result Stop LineFault
 stop_of s t fs = and_then (parts_of s fs) (judged s t)
 
 -- a line: s is the spot before its fields fs, and `S` is the letter
-abbrev pub line_of : Spot → ℕ → List (List ℕ) → Result Stop LineFault
+unfoldable pub line_of : Spot → ℕ → List (List ℕ) → Result Stop LineFault
 line_of s t fs =
     cond (is 83 (letter_in fs))
     (cond (length fs == 5) (stop_of (next_field s) t (drop 1 fs)) (bad_line FieldCount s))

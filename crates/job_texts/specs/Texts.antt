@@ -7,7 +7,7 @@ use Rattle.faults.specs.declared.Text.TheVariants.{Job as OfJob}
 use Rattle.faults.specs.declared.TextWrong.TheVariants.{NoLines}
 use Rattle.faults.specs.declared.Cause.TheVariants.{Whole}
 use Rattle.faults.specs.declared.TextFault.{TextFault}
-use Rattle.faults.specs.declared.TextFault.TheVariants.{Job as InJob}
+use Rattle.faults.specs.Faults.{fault_in}
 use Rattle.texts.specs.Rows.{Grammar, read_text}
 use Rattle.job_texts.specs.Lines.{line_of}
 
@@ -17,7 +17,7 @@ job_lines = record { text = OfJob; line = line_of; next = λ told stop. told + 1
 
 -- a job has lines
 abbrev pub lined : Result (List Stop) TextFault → Result (List Stop) TextFault
-lined (Ok []) = Err (InJob (Whole NoLines))
+lined (Ok []) = Err (fault_in OfJob (Whole NoLines))
 lined (Ok (s ∷ ss)) = Ok (s ∷ ss)
 lined (Err f) = Err f
 

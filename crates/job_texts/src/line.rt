@@ -10,15 +10,14 @@ use texts::number::LAST_KIND;
 use texts::reader::Reader;
 
 // The most that a stop and a parent may be.
-const LAST_STOP: u64 = 11;
+const LAST_STOP: u8 = 11;
 
 // The fields of a stop line: a lone `-` as parent is none, and the link is a letter.
-// Its bounds stand in the contracts: anyone may build one, and an invariant would ask more of whoever does.
 #[derive(Clone, Copy, Debug, PartialEq, Eq)]
 pub struct StopLine {
-    pub number: u64,
-    pub parent: Option<u64>,
-    pub kind: u64,
+    pub number: u8,
+    pub parent: Option<u8>,
+    pub kind: u8,
     pub letter: Option<u8>,
 }
 
@@ -27,7 +26,7 @@ impl StopLine {
     fn read(reader: &mut Reader) -> Result<StopLine, LineFault>
         requires { 3 < length (fields_left reader.old) }
         ensures value { result ≡ parts_of (spot_of reader.old) (fields_left reader.old) }
-        ensures low { IfOk result (λ l. (l.number ≤ 11) × IfSome l.parent (λ p. p ≤ 11) × (l.kind ≤ 255)) }
+        ensures low { IfOk result (λ l. (l.number ≤ 11) × IfSome l.parent (λ p. p ≤ 11)) }
         ensures kept { Kept reader.old reader.new }
     {
         Ok(StopLine {
@@ -60,30 +59,27 @@ impl StopLine {
 
     // How the stop after `told` others is tied.
     fn tie(self, at: Spot, told: usize) -> Result<Option<Tie>, LineFault>
-        requires { IfSome self.parent (λ p. p ≤ 11) }
         ensures value { result ≡ tie_of at told self.parent self.letter }
         ensures keeps { IfOk result (λ t. tied told t ≡ true) }
     {
         match self.parent {
             None if told == 0 => self.root(at),
-            // the reader bounds a parent by 11, so `as` drops nothing; `u8::try_from` would add an error that cannot come
-            Some(parent) if parent < told as u64 => self.link(at, parent as u8),
+            Some(parent) if usize::from(parent) < told => self.link(at, parent),
             _ => Err(at.fault(FieldWrong::WrongParent, 3)),
         }
     }
 
     // The stop that the line tells after `told` others.
     fn stop(self, at: Spot, told: usize) -> Result<Stop, LineFault>
-        requires { (self.number ≤ 11) × IfSome self.parent (λ p. p ≤ 11) × (self.kind ≤ 255) }
+        requires { self.number ≤ 11 }
         ensures value { result ≡ judged at told self }
         ensures keeps { IfOk result (λ s. (told < 12) × (tied told s.tie ≡ true)) }
     {
-        if self.number != told as u64 {
+        if usize::from(self.number) != told {
             return Err(at.fault(FieldWrong::NotNextStop, 2));
         }
-        // the reader bounds a kind by 255, so `as` drops nothing; `u8::try_from` would add an error that cannot come
         Ok(Stop {
-            kind: self.kind as u8,
+            kind: self.kind,
             tie: self.tie(at, told)?,
         })
     }
@@ -100,18 +96,16 @@ fn read_stop(reader: &mut Reader, told: usize) -> Result<Stop, LineFault>
     StopLine::read(reader)?.stop(at, told)
 }
 
+#[tactic(auto, unfolding(crate::specs::Lines::line_of))]
 // The stop that the line at hand tells after `told` others.
 pub fn read_line(reader: &mut Reader, told: usize) -> Result<Stop, LineFault>
     ensures value { result ≡ line_of (spot_of reader.old) told (fields_left reader.old) }
     ensures keeps { IfOk result (λ s. (told < 12) × (tied told s.tie ≡ true)) }
     ensures kept { Kept reader.old reader.new }
 {
-    let fields = reader.fields();
     match reader.letter() {
         Some(b'S') => {
-            if fields != 5 {
-                return Err(reader.line_fault(LineWrong::FieldCount));
-            }
+            reader.expect_fields(4)?;
             read_stop(reader, told)
         }
         _ => Err(reader.field_fault(FieldWrong::NotLetter, 1)),

@@ -9,7 +9,7 @@ use anyhow::Context;
 use books::book::read_book;
 use books::line::Counts;
 use console::limit::admit;
-use faults::TextFault;
+use faults::{Text, TextFault};
 use job_texts::text::read_job;
 use jobs::job::Job;
 use jobs::stops::{Link, Stop, Tie};
@@ -147,9 +147,9 @@ struct ShownFault(TextFault);
 
 impl Display for ShownFault {
     fn fmt<W: Write>(&self, f: &mut Formatter<W>) -> fmt::Result {
-        let text = match self.0 {
-            TextFault::Book(_) => "book",
-            TextFault::Job(_) => "job",
+        let text = match self.0.text {
+            Text::Book => "book",
+            Text::Job => "job",
         };
         let number = self.0.number();
         let line = self.0.line();

@@ -2,9 +2,8 @@
 use Rattle.std.proofs.Common.{◌≡◌, ℕ, ◌≤◌, Bool, true, false, cond, leb, List, [], ◌∷◌, IfOk, Ok, Err, Result, refl}
 use Rattle.std.proofs.lemmas.Bool.{leb-true}
 use Rattle.faults.specs.declared.Spot.{Spot}
-use Rattle.faults.specs.declared.FieldFault.{FieldFault}
 use Rattle.faults.specs.declared.LineFault.{LineFault}
-use Rattle.faults.specs.Faults.{next_field}
+use Rattle.faults.specs.Faults.{FieldFault, next_field}
 use Rattle.texts.specs.Numbers.{is_number, decimal, numeral, in_line, number_in}
 use Rattle.texts.specs.Rules.{and_then}
 

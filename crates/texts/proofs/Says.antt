@@ -2,9 +2,8 @@
 use Rattle.std.proofs.Common.{◌≡◌, ℕ, Bool, true, false, cond, leb, List, [], ◌∷◌, Ok, Err, Result, refl}
 use Rattle.faults.specs.declared.Text.{Text}
 use Rattle.faults.specs.declared.Spot.{Spot}
-use Rattle.faults.specs.declared.FieldFault.{FieldFault}
 use Rattle.faults.specs.declared.LineFault.{LineFault}
-use Rattle.faults.specs.Faults.{text_of, next_field}
+use Rattle.faults.specs.Faults.{FieldFault, text_of, next_field}
 use Rattle.texts.specs.Numbers.{is_number, decimal, numeral, some_of, only, numeral_or_dash, in_line, number_in, number_or_dash_in}
 use Rattle.texts.specs.Rules.{and_then}
 

@@ -1,5 +1,5 @@
 -- How a text is cut into lines and a line into fields.
-use Rattle.std.specs.Prelude.{ℕ, Bool, true, false, cond, List, [], ◌∷◌, map, length, drop, ◌==◌, nat_le}
+use Rattle.std.specs.Prelude.{ℕ, Bool, true, false, cond, List, [], ◌∷◌, map, drop, Some, None, Option, ◌==◌}
 use Rattle.std.specs.List.{slice_split}
 
 -- a line: its bytes without the end, and whether the end is there
@@ -30,6 +30,7 @@ row_of c = (fields c.0, c.1)
 abbrev pub rows : List ℕ → List Row
 rows t = map row_of (lines t)
 
--- the fields of a line from its byte p on; none past its end
-abbrev pub fields_from : List ℕ → ℕ → List (List ℕ)
-fields_from t p = cond (nat_le p (length t)) (fields (drop p t)) []
+-- the fields of a line from the byte on at which the next one starts; none if none is left
+unfoldable pub fields_from : List ℕ → Option ℕ → List (List ℕ)
+fields_from t (Some p) = fields (drop p t)
+fields_from t None = []

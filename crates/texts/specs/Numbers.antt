@@ -2,12 +2,11 @@
 use Rattle.std.specs.Prelude.{ℕ, ◌+◌, ◌-◌, ◌*◌, Bool, cond, ◌&&◌, List, [], ◌∷◌, length, Some, None, Ok, Err, Option, Result, ◌==◌, nat_le, slice_index}
 use Rattle.std.specs.Str.{all_ascii_digits}
 use Rattle.faults.specs.declared.FieldWrong.TheVariants.{NotNumber, AboveBound}
-use Rattle.faults.specs.declared.FieldFault.{FieldFault}
 use Rattle.faults.specs.declared.Spot.{Spot}
 use Rattle.faults.specs.declared.LineFault.{LineFault}
 use Rattle.faults.specs.declared.LineFault.TheVariants.{Field}
 use Rattle.faults.specs.declared.LineWrong.TheVariants.{FieldCount}
-use Rattle.faults.specs.Faults.{field_fault, line_fault, next_field}
+use Rattle.faults.specs.Faults.{FieldFault, field_fault, line_fault, next_field}
 
 -- the value of decimal digits that follow the number n
 abbrev pub decimal_after : ℕ → List ℕ → ℕ
@@ -27,6 +26,11 @@ numeral bound s cs =
     cond (is_number cs)
     (cond (nat_le (decimal cs) bound) (Ok (decimal cs)) (Err (field_fault AboveBound s)))
     (Err (field_fault NotNumber s))
+
+-- the number that a value which was read is
+abbrev pub valued : {A B F : Type 0} → (A → B) → Result A F → Result B F
+valued value (Ok a) = Ok (value a)
+valued value (Err f) = Err f
 
 -- a field's fault lies whole inside its line's
 abbrev pub in_line : {A : Type 0} → Result A FieldFault → Result A LineFault

@@ -1,7 +1,8 @@
 -- The parts that the meaning of a line is put together from.
-use Rattle.std.specs.Prelude.{◌≡◌, ℕ, Bool, false, Some, None, Ok, Err, Option, Result, ◌==◌}
+use Rattle.std.specs.Prelude.{◌≡◌, ℕ, Bool, false, cond, List, length, Some, None, Ok, Err, Option, Result, ◌==◌}
 use Rattle.faults.specs.declared.FieldWrong.{FieldWrong}
 use Rattle.faults.specs.declared.LineWrong.{LineWrong}
+use Rattle.faults.specs.declared.LineWrong.TheVariants.{FieldCount}
 use Rattle.faults.specs.declared.LineFault.{LineFault}
 use Rattle.faults.specs.declared.LineFault.TheVariants.{Field}
 use Rattle.faults.specs.declared.Spot.{Spot}
@@ -20,6 +21,10 @@ bad_field w s f = Err (Field (field_fault w (spot s.text s.line f)))
 
 abbrev pub bad_line : {A : Type 0} → LineWrong → Spot → Result A LineFault
 bad_line w s = Err (line_fault w s.text s.line)
+
+-- refused unless so many fields are left
+abbrev pub counted : ℕ → Spot → List (List ℕ) → Result (Unit {0}) LineFault
+counted n s fs = cond (length fs == n) (Ok tt) (bad_line FieldCount s)
 
 -- whether the letter is b
 abbrev pub is : ℕ → Option ℕ → Bool

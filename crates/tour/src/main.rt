@@ -25,9 +25,7 @@ fn text_of(rt: &HostRuntime, path: &str) -> io::Result<Vec<u8>> {
 // Prints one line.
 fn print_line<L: ToLine>(rt: &HostRuntime, shows: &L) -> io::Result<()> {
     let mut out = [0u8; LINE_ROOM];
-    let Ok(length) = write_line(&mut out, shows) else {
-        unreachable!();
-    };
+    let length = write_line(&mut out, shows).unwrap();
     rt.stdout().write_all(&out[..length])
 }
 
@@ -35,9 +33,7 @@ fn print_line<L: ToLine>(rt: &HostRuntime, shows: &L) -> io::Result<()> {
 fn print_account(rt: &HostRuntime, street: &ListStreet, job: &Job, read: Inputs) -> io::Result<()> {
     print_line(rt, &read)?;
     for stop in 0..job.len() {
-        let Ok(choices) = choices(street, job, stop) else {
-            unreachable!();
-        };
+        let choices = choices(street, job, stop).unwrap();
         print_line(rt, &StopChoices { stop, choices })?;
     }
     Ok(())

@@ -17,7 +17,7 @@ pub enum LineRefusal {
 }
 
 impl LineRefusal {
-    // The number that stands for the refusal.
+    // The number that stands for the refusal, with no trait, as for `LimitRefusal`.
     pub fn number(self) -> u8
         ensures { result ≡ number_of self }
     {

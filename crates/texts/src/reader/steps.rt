@@ -1,12 +1,14 @@
-ghost use Rattle.std.specs.Prelude.{◌≡◌, ◌==◌, ◌+◌, ◌-◌, ◌<◌, ◌≤◌, true, false, [], ◌∷◌, length, take, drop, position, IfSome, IfOk, MatchOption};
-ghost use Rattle.texts.specs.Cut.{rows, fields, fields_from};
+ghost use Rattle.std.specs.Prelude.{◌≡◌, ◌==◌, ◌+◌, ◌-◌, ◌<◌, ◌≤◌, true, false, [], ◌∷◌, length, take, drop, Some, option_map, position, IfSome, IfOk, MatchOption, MatchResult};
+ghost use Rattle.texts.specs.Cut.{rows, fields};
 ghost use Rattle.faults.specs.declared.LineFault.TheVariants.{Field};
+ghost use Rattle.faults.specs.declared.LineWrong.TheVariants.{FieldCount};
 ghost use Rattle.faults.specs.Faults.{spot as spotAt, line_fault, field_fault};
-ghost use Rattle.texts.specs.Numbers.{letter_in, number_in, number_or_dash_in};
+ghost use Rattle.texts.specs.Numbers.{valued, letter_in, number_in, number_or_dash_in};
 ghost use Rattle.texts.specs.Means.{rows_left, fields_left, spot_of, LineStep, FieldStep, Moved};
+ghost use Rattle.texts.specs.Rules.{counted};
 ghost use Rattle.texts.specs.Tokens.{part_of, start_of, Sorted};
 
-use crate::number::number;
+use crate::number::{Unsigned, number};
 use crate::reader::{Reader, Token};
 use faults::{FieldWrong, LineFault, LineWrong, Spot, Text};
 
@@ -21,7 +23,7 @@ fn before(part: &[u8], b: u8) -> Option<usize>
 // Where the line that starts at `start` ends, or none where its end is missing.
 fn line_end(text: &[u8], start: usize) -> Option<usize>
     requires { start ≤ length text.now }
-    ensures { MatchOption result (start < length text.now → rows (drop start text.now) ≡ (fields (drop start text.now), false) ∷ []) (λ end. (start ≤ end) × (end < length text.now) × (rows (drop start text.now) ≡ (fields_from (take end text.now) start, true) ∷ rows (drop (end + 1) text.now))) }
+    ensures { MatchOption result (start < length text.now → rows (drop start text.now) ≡ (fields (drop start text.now), false) ∷ []) (λ end. (start ≤ end) × (end < length text.now) × (rows (drop start text.now) ≡ (fields (drop start (take end text.now)), true) ∷ rows (drop (end + 1) text.now))) }
 {
     let length = before(&text[start..], b'\n')?;
     Some(start + length)
@@ -34,13 +36,12 @@ fn count_fields(line: &[u8]) -> usize
     line.split(|b| *b == b'\t').count()
 }
 
+// How many bytes the first field of a line has, if another follows it.
 #[tactic(auto, using(crate::proofs::Cuts::first_part))]
-// How many bytes the first field of a line has.
-fn first_field(line: &[u8]) -> usize
-    ensures field { fields line.now ≡ take result line.now ∷ fields_from line.now (result + 1) }
-    ensures high { result ≤ length line.now }
+fn first_field(line: &[u8]) -> Option<usize>
+    ensures { MatchOption result (fields line.now ≡ line.now ∷ []) (λ n. (n < length line.now) × (fields line.now ≡ take n line.now ∷ fields (drop (n + 1) line.now))) }
 {
-    before(line, b'\t').unwrap_or(line.len())
+    before(line, b'\t')
 }
 
 impl<'a> Token<'a> {
@@ -76,6 +77,7 @@ impl<'a> Token<'a> {
 }
 
 impl<'a> Reader<'a> {
+    #[tactic(auto, unfolding(crate::specs::Cut::fields_from))]
     // A reader before the first line of a text.
     pub fn new(which: Text, text: &'a [u8]) -> Reader<'a>
         ensures { (rows_left result ≡ rows text.now) × (fields_left result ≡ []) × (spot_of result ≡ spotAt which 0 0) }
@@ -84,7 +86,7 @@ impl<'a> Reader<'a> {
             text,
             which,
             next: 0,
-            pos: 1,
+            pos: None,
             end: 0,
             line: 0,
             field: 0,
@@ -102,6 +104,7 @@ impl<'a> Reader<'a> {
         }
     }
 
+    #[tactic(auto, unfolding(crate::specs::Cut::fields_from))]
     // Goes to the next line, and answers whether there is one. A line without its end is refused. The answer is no `Option`,
     // since nothing is handed out: the fields are asked of the reader.
     pub fn next_line(&mut self) -> Result<bool, LineFault>
@@ -120,40 +123,49 @@ impl<'a> Reader<'a> {
             .line_fault(LineWrong::Unended));
         };
         self.next = end + 1;
-        self.pos = start;
+        self.pos = Some(start);
         self.end = end;
         self.line = line;
         self.field = 0;
         Ok(true)
     }
 
-    #[tactic(auto, using(crate::proofs::Cuts::rest_is))]
-    // The bytes of the line at hand from the next field on, or none past the last field.
-    fn rest(&self) -> Option<&'a [u8]>
-        ensures { MatchOption result (fields_left self.now ≡ []) (λ rest. (fields_left self.now ≡ fields rest.now) × (rest.now ≡ take (self.now.end - self.now.pos) (drop self.now.pos self.now.text.now)) × (self.now.pos + length rest.now ≡ self.now.end)) }
-    {
-        self.text.get(self.pos..self.end)
-    }
-
-    #[tactic(auto, using(crate::proofs::Cuts::line_on))]
+    #[tactic(auto, using(crate::proofs::Cuts::line_fields, crate::proofs::Cuts::line_on), unfolding(crate::specs::Cut::fields_from))]
     // The next field of the line at hand, or none past the last.
     pub fn next_field(&mut self) -> Option<Token<'a>>
         ensures left { MatchOption result ((fields_left self.old ≡ []) × (self.new ≡ self.old)) (λ t. FieldStep self.old self.new (part_of t)) }
-        ensures part { IfSome result (λ t. (start_of t ≡ self.old.pos) × (part_of t ≡ take (length (part_of t)) (drop (start_of t) self.old.text.now)) × Sorted t) }
+        ensures part { IfSome result (λ t. (Some (start_of t) ≡ self.old.pos) × (part_of t ≡ take (length (part_of t)) (drop (start_of t) self.old.text.now)) × Sorted t) }
     {
-        let rest = self.rest()?;
-        let start = self.pos;
-        let length = first_field(rest);
-        self.pos = start + length + 1;
+        let start = self.pos?;
+        let rest = &self.text[start..self.end];
+        let (part, next) = match first_field(rest) {
+            Some(length) => (&rest[..length], Some(start + length + 1)),
+            None => (rest, None),
+        };
+        self.pos = next;
         self.field += 1;
-        Some(Token::new(&rest[..length], start))
+        Some(Token::new(part, start))
     }
 
+    #[tactic(auto, using(crate::proofs::Cuts::line_fields), unfolding(crate::specs::Cut::fields_from))]
     // How many fields of the line at hand are left.
     pub fn fields(&self) -> usize
         ensures { result ≡ length (fields_left self.now) }
     {
-        self.rest().map_or(0, count_fields)
+        match self.pos {
+            Some(start) => count_fields(&self.text[start..self.end]),
+            None => 0,
+        }
+    }
+
+    // Refuses the line at hand unless so many of its fields are left.
+    pub fn expect_fields(&self, count: usize) -> Result<(), LineFault>
+        ensures { result ≡ counted count (spot_of self.now) (fields_left self.now) }
+    {
+        if self.fields() != count {
+            return Err(self.line_fault(LineWrong::FieldCount));
+        }
+        Ok(())
     }
 
     // What is wrong with the line at hand as a whole.
@@ -181,27 +193,31 @@ impl<'a> Reader<'a> {
         }
     }
 
+    // The next field, without which the line has too few.
+    fn token(&mut self) -> Result<Token<'a>, LineFault>
+        ensures { MatchResult result (λ t. FieldStep self.old self.new (part_of t) × Sorted t) (λ f. (fields_left self.old ≡ []) × (self.new ≡ self.old) × (f ≡ line_fault FieldCount self.old.which self.old.line)) }
+    {
+        let token = self.next_field();
+        token.ok_or(self.line_fault(LineWrong::FieldCount))
+    }
+
     // The number in the next field, at most `bound`.
-    pub fn number(&mut self, bound: u64) -> Result<u64, LineFault>
-        ensures value { result ≡ number_in bound (spot_of self.old) (fields_left self.old) }
-        ensures high { IfOk result (λ v. v ≤ bound) }
+    pub fn number<N: Unsigned>(&mut self, bound: N) -> Result<N, LineFault>
+        ensures value { valued N.value result ≡ number_in (N.value bound) (spot_of self.old) (fields_left self.old) }
+        ensures high { IfOk result (λ v. N.value v ≤ N.value bound) }
         ensures moved { Moved self.old self.new }
     {
-        let Some(token) = self.next_field() else {
-            return Err(self.line_fault(LineWrong::FieldCount));
-        };
+        let token = self.token()?;
         Ok(number(token.part(), bound, self.spot())?)
     }
 
     // The number in the next field, at most `bound`, or none where a lone `-` stands.
-    pub fn number_or_dash(&mut self, bound: u64) -> Result<Option<u64>, LineFault>
-        ensures value { result ≡ number_or_dash_in bound (spot_of self.old) (fields_left self.old) }
-        ensures high { IfOk result (λ o. IfSome o (λ v. v ≤ bound)) }
+    pub fn number_or_dash<N: Unsigned>(&mut self, bound: N) -> Result<Option<N>, LineFault>
+        ensures value { valued (option_map N.value) result ≡ number_or_dash_in (N.value bound) (spot_of self.old) (fields_left self.old) }
+        ensures high { IfOk result (λ o. IfSome o (λ v. N.value v ≤ N.value bound)) }
         ensures moved { Moved self.old self.new }
     {
-        let Some(token) = self.next_field() else {
-            return Err(self.line_fault(LineWrong::FieldCount));
-        };
+        let token = self.token()?;
         if let Token::Dash { .. } = token {
             return Ok(None);
         }

@@ -10,10 +10,9 @@ use Rattle.books.proofs.book.fill.Given as goal
 abbrev pub invariant-loop-entry : goal.invariant-loop-entry
 invariant-loop-entry l = record {
   room : l.entries.progress.room ≡ l.fn.room;
-  told : l.told ≡ l.entries.progress.told;
-  kinds : drop l.told.places l.kinds ≡ drop l.told.places l.initial.kinds;
-  legs : drop l.told.legs l.legs ≡ drop l.told.legs l.initial.legs;
-  book : after (take l.told.places l.kinds) (take l.told.legs l.legs) (left l.entries) ≡ book_of (read_rows (book_lines l.fn.room) (counts 0 0) 1 (rows l.text));
+  kinds : drop l.entries.progress.told.places l.kinds ≡ drop l.entries.progress.told.places l.initial.kinds;
+  legs : drop l.entries.progress.told.legs l.legs ≡ drop l.entries.progress.told.legs l.initial.legs;
+  book : after (take l.entries.progress.told.places l.kinds) (take l.entries.progress.told.legs l.legs) (left l.entries) ≡ book_of (read_rows (book_lines l.fn.room) (counts 0 0) 1 (rows l.text));
 }
 
 abbrev pub decreases-loop-entry : goal.decreases-loop-entry
