@@ -17,7 +17,7 @@ use Rattle.cells.specs.declared.cell.Entry.{Entry}
 use Rattle.cells.specs.Cells.{places_of, entry_before}
 use Rattle.tables.specs.Tables.{blank, entry_in}
 use Rattle.minima.specs.Tables.{Tables}
-use Rattle.waiting.specs.Queues.{waiting_in, row_start, Queue, FirstWaiting}
+use Rattle.waiting.specs.Queues.{waiting_in, row_start, Queue, FirstWaiting, NextPlan}
 
 module _ {M V : Type 0} (cells : List (Cell M V)) (before : V → V → Bool) (from to : ℕ) (le : from ≤ to) (fits : to ≤ length cells) where
   long : length (take (to - from) (drop from cells)) ≡ to - from
@@ -88,3 +88,6 @@ module _ {M V : Type 0} (meaning : MeasureMeaning V) (cells : List (Cell M V)) (
     chosen meaning laws cells n stops base (k * m) τ H given tables waits (omega arith) w l f.some.2 f.some.1,
     first_left meaning laws cells n stops base (k * m) τ H given tables waits (omega arith) w l f.some.2 f.some.1,
   )
+
+  pub next_plan : (r : Option ℕ) → m ≤ 12 → Laws meaning.nought meaning.joined meaning.before → FirstWaiting meaning cells base (k * m) r → NextPlan meaning cells base m k r
+  next_plan r few laws f = record { told = λ τ H n stops given size tables waits. plan_next laws τ H n stops given size few tables waits r f }

@@ -1,12 +1,8 @@
-ghost use Rattle.std.specs.Prelude.{◌≡◌, ℕ, ◌+◌, ◌*◌, ◌<◌, ◌≤◌, true, List, length, IfSome, None, Option, MatchOption, ◌≢◌};
-ghost use Rattle.measures.specs.Scales.{optional};
-ghost use Rattle.jobs.specs.declared.stops.Stop.{Stop};
-ghost use Rattle.trees.specs.Tasks.{Task};
-ghost use Rattle.trees.specs.Rounds.{Partition, Chosen, FirstLeft, NoneLeft};
+ghost use Rattle.std.specs.Prelude.{◌≡◌, ℕ, ◌+◌, ◌*◌, ◌<◌, ◌≤◌, true, length, IfSome, None, MatchOption, ◌≢◌};
+ghost use Rattle.measures.specs.Laws.{Laws};
 ghost use Rattle.cells.specs.Cells.{places_of, entry_before};
 ghost use Rattle.tables.specs.Tables.{entry_in};
-ghost use Rattle.minima.specs.Tables.{Tables};
-ghost use Rattle.waiting.specs.Queues.{waiting_in, row_start, Queue, FirstWaiting};
+ghost use Rattle.waiting.specs.Queues.{row_start, Queue, FirstWaiting, NextPlan};
 
 use crate::queue::Entries;
 use cells::cell::Cell;
@@ -31,7 +27,7 @@ where
 }
 
 // Of the waiting subspaces in so many cells from one on, the one whose plan comes first, counted from the first of them;
-// none where none has a plan.
+// none where none has a plan. The clause `laws` repeats what every measure keeps: the check does not look it up in a bound.
 #[tactic(auto, using(crate::proofs::Leasts::none_behind, crate::proofs::Leasts::none_waits))]
 pub fn first_in<'a, M: Measure>(
     cells: &'a [Cell<M, M::Value>],
@@ -42,7 +38,8 @@ where
     M: 'a,
     M::Value: 'a,
     requires { from + count ≤ length cells.now }
-    ensures { FirstWaiting M.Measure.meaning cells.now from count result }
+    ensures first { FirstWaiting M.Measure.meaning cells.now from count result }
+    ensures laws { let m = M.Measure.meaning in Laws m.nought m.joined m.before }
 {
     let w = least_in::<M>(cells, from, from + count)?;
     cell_at(cells, from + w).entry.score.map(|_| w)
@@ -50,7 +47,7 @@ where
 
 impl Entries {
     // Where the first plan waits that is not given, or none where no plan is left.
-    #[tactic(auto, using(crate::proofs::Stepping::room_most, crate::proofs::Leasts::some_next, crate::proofs::Leasts::ready_next))]
+    #[tactic(auto, using(crate::proofs::Stepping::room_most, crate::proofs::Leasts::some_next, crate::proofs::Leasts::ready_next, crate::proofs::Leasts::next_plan))]
     pub fn find_next<'a, M: Measure>(&self, cells: &'a [Cell<M, M::Value>]) -> Option<usize>
     where
         M: 'a,
@@ -59,10 +56,7 @@ impl Entries {
         ensures some { let e = self.now in IfSome result (λ w. (w < e.k * e.m) × ((entry_in cells.now (e.base + w)).score ≢ None)) }
         ensures ready { let e = self.now in (n rows : ℕ) → Queue cells.now e.base n e.m e.k rows → IfSome result (λ w. (w < row_start e.m e.k rows)
             × ((entry_in cells.now (e.base + w)).depth < e.m) × ((t : ℕ) → t < e.m → places_of (entry_in cells.now (e.base + w)).places t < n)) }
-        ensures plan { let e = self.now in (τ : Task (Option M.Value)) (H : ℕ → ℕ → Option M.Value) (n : ℕ) (stops : List Stop) (given : List (ℕ → ℕ)) → length stops ≡ e.m → Tables M.Measure.meaning cells.now n stops τ H →
-            Partition (optional M.Measure.meaning) τ H given (e.k * e.m) (waiting_in cells.now e.base) →
-            MatchOption result (NoneLeft (optional M.Measure.meaning) τ given) (λ w. Chosen (optional M.Measure.meaning) τ (e.k * e.m) (waiting_in cells.now e.base) w
-            × FirstLeft (optional M.Measure.meaning) τ given (places_of (entry_in cells.now (e.base + w)).places) (entry_in cells.now (e.base + w)).score) }
+        ensures plan { let e = self.now in NextPlan M.Measure.meaning cells.now e.base e.m e.k result }
     {
         first_in::<M>(cells, self.base, self.k * self.m)
     }
