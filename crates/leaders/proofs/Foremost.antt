@@ -1,25 +1,19 @@
 -- Where every row in use is led by its head, the least of the heads has the first plan left.
-use Rattle.std.proofs.Common.{◌≡◌, ℕ, ◌+◌, ◌-◌, ◌*◌, ◌/◌, ◌%◌, ◌<◌, ◌≤◌, true, false, ◌⊎◌, List, length, Some, None, Option, sym, refl, ap, ◌∙◌, subst, inl, inr, ⊎_elim, arith}
+use Rattle.std.proofs.Common.{◌≡◌, ℕ, ◌+◌, ◌-◌, ◌*◌, ◌/◌, ◌%◌, ◌<◌, ◌≤◌, true, false, ◌⊎◌, List, IfSome, Some, None, Option, sym, refl, ap, ◌∙◌, subst, inl, inr, ⊎_elim, arith}
 use Rattle.std.proofs.lemmas.Nat.{mul-le, div_below, mod_below, div-add-mod'}
-use Rattle.std.proofs.lemmas.Bool.{cases_lt, cases_Bool, false≢true, cond-true, cond-false}
+use Rattle.std.proofs.lemmas.Bool.{cases_lt, cases_Bool, cond-true, cond-false}
 use Rattle.measures.specs.Laws.{Laws}
 use Rattle.measures.specs.Meaning.{MeasureMeaning}
-use Rattle.jobs.specs.declared.job.Job.{Job}
-use Rattle.jobs.specs.Jobs.{stops_of}
 use Rattle.measures.specs.Scales.{optional}
-use Rattle.trees.specs.Tasks.{Task}
-use Rattle.trees.specs.Rounds.{Partition, Chosen, FirstLeft, NoneLeft}
 use Rattle.trees.proofs.Lift.{lifted}
-use Rattle.trees.proofs.Choosing.{chosen_by, sooner_total}
-use Rattle.trees.proofs.Rounds.{chosen_foremost, all_none}
+use Rattle.trees.proofs.Choosing.{sooner_total}
 use Rattle.cells.specs.declared.cell.Cell.{Cell}
 use Rattle.cells.specs.declared.cell.Entry.{Entry}
 use Rattle.cells.specs.Cells.{places_of, space_of, entry_before}
 use Rattle.tables.specs.Tables.{entry_in}
-use Rattle.minima.specs.Tables.{Tables}
-use Rattle.jobs.proofs.Ties.{few_stops, some_stop}
-use Rattle.waiting.specs.Queues.{waiting_in, row_start}
-use Rattle.leaders.specs.Leaders.{AllLed, Rows}
+use Rattle.waiting.specs.Queues.{row_start, FirstWaiting}
+use Rattle.waiting.proofs.Leasts.{none_behind, no_plan, chosen, first_left}
+use Rattle.leaders.specs.Leaders.{AllLed, Rows, HeadPlan}
 use Rattle.leaders.proofs.Heads.{chain}
 
 -- an entry behind the heads stands in one of the rows
@@ -38,13 +32,6 @@ scored_or_not (Some x) = inr (λ e. let z : ◌≡◌ {A = ℕ} 0 1 = cc in omeg
 scored_or_not None = inl refl
 
 module _ {V : Type 0} (meaning : MeasureMeaning V) (laws : Laws meaning.nought meaning.joined meaning.before) where
-  -- what is at or after an entry without a plan has none either
-  pub none_behind : (a b : Entry V) → entry_before meaning.before a b ≡ true → a.score ≡ None → b.score ≡ None
-  none_behind a b h none = ⊎_elim
-      (λ t. let s = lifted meaning laws in s.laws.antisym _ _ (s.worst b.score) (ap (λ (o : Option V). (optional meaning).leq o b.score) (sym none) ∙ t))
-      (λ f. absurd (false≢true (sym (cond-false _ _ false f) ∙ h)))
-      (cases_Bool ((optional meaning).leq a.score b.score))
-
   -- an entry with a plan comes before one without
   pub before_none : (a b : Entry V) → (a.score ≡ None → ⊥) → b.score ≡ None → entry_before meaning.before a b ≡ true
   before_none a b some none = let s = lifted meaning laws in
@@ -58,25 +45,36 @@ module _ {V : Type 0} (meaning : MeasureMeaning V) (laws : Laws meaning.nought m
   itself a = ⊎_elim (λ t. t) (λ t. t) (sooner_total (optional meaning) (lifted meaning laws) 12 (space_of a) (space_of a))
 
 module _ {M V : Type 0} (meaning : MeasureMeaning V) (laws : Laws meaning.nought meaning.joined meaning.before) (cells : List (Cell M V)) (n m base k rows : ℕ) (some : 1 ≤ m)
-    (rows_in : Rows cells base n m k rows) (led : AllLed meaning cells base m k rows) (w : ℕ) (wl : w < k)
-    (least : (v : ℕ) → v < k → entry_before meaning.before (entry_in cells (base + w)) (entry_in cells (base + v)) ≡ true) where
+    (rows_in : Rows cells base n m k rows) (led : AllLed meaning cells base m k rows) where
   -- an entry in a row that is not in use has no plan
   unused : (v row u : ℕ) → v < k * m → rows ≤ row → v ≡ row_start m k row + u → ((entry_in cells (base + v)).score ≡ None → ⊥) → ⊥
   unused v row u l h e has = let x = mul-le rows (m - 1) row (m - 1) h (omega arith) in let d = rows_in.queue.free v (omega arith) l in let s = (rows_in.queue.safe v l has).0 in omega arith
 
-  -- the least head is at or before every entry with a plan
-  pub before_all : (v : ℕ) → v < k * m → ((entry_in cells (base + v)).score ≡ None → ⊥) → entry_before meaning.before (entry_in cells (base + w)) (entry_in cells (base + v)) ≡ true
-  before_all v l has = ⊎_elim (least v) (λ g. let r = row_of m k v some g l in ⊎_elim
-      (λ used. chain meaning laws (entry_in cells (base + w)) (entry_in cells (base + r.0)) (entry_in cells (base + v)) (least r.0 r.2)
-      (subst (λ (x : ℕ). entry_before meaning.before (entry_in cells (base + r.0)) (entry_in cells (base + x)) ≡ true) (sym r.4) ((led r.0 used).first r.1 r.3)))
-      (λ out. absurd (unused v r.0 r.1 l out r.4 has))
-      (cases_lt r.0 rows)) (cases_lt v k)
+  -- an entry with a plan that is no head comes after the head of its row
+  behind_head : (v : ℕ) → k ≤ v → v < k * m → ((entry_in cells (base + v)).score ≡ None → ⊥) → (row : ℕ) × (row < k) × (entry_before meaning.before (entry_in cells (base + row)) (entry_in cells (base + v)) ≡ true)
+  behind_head v g l has = let r = row_of m k v some g l in (
+    r.0,
+    r.2,
+    ⊎_elim
+        (λ used. subst (λ (x : ℕ). entry_before meaning.before (entry_in cells (base + r.0)) (entry_in cells (base + x)) ≡ true) (sym r.4) ((led r.0 used).first r.1 r.3))
+        (λ out. absurd (unused v r.0 r.1 l out r.4 has))
+        (cases_lt r.0 rows),
+  )
 
-  pub none_at_all : (entry_in cells (base + w)).score ≡ None → (v : ℕ) → v < k * m → (entry_in cells (base + v)).score ≡ None
-  none_at_all none v l = ⊎_elim (λ e. e) (λ has. absurd (has (none_behind meaning laws (entry_in cells (base + w)) (entry_in cells (base + v)) (before_all v l has) none))) (scored_or_not (entry_in cells (base + v)).score)
+  -- where no head has a plan, no entry has one
+  pub none_at_all : ((v : ℕ) → v < k → (entry_in cells (base + v)).score ≡ None) → (v : ℕ) → v < k * m → (entry_in cells (base + v)).score ≡ None
+  none_at_all none v l = ⊎_elim (none v) (λ g. ⊎_elim
+      (λ e. e)
+      (λ has. let r = behind_head v g l has in none_behind meaning.before (entry_in cells (base + r.0)) (entry_in cells (base + v)) r.2 (none r.0 r.1))
+      (scored_or_not (entry_in cells (base + v)).score)) (cases_lt v k)
 
-  pub least_of_all : ((entry_in cells (base + w)).score ≡ None → ⊥) → (v : ℕ) → v < k * m → entry_before meaning.before (entry_in cells (base + w)) (entry_in cells (base + v)) ≡ true
-  least_of_all has v l = ⊎_elim (before_none meaning laws (entry_in cells (base + w)) (entry_in cells (base + v)) has) (before_all v l) (scored_or_not (entry_in cells (base + v)).score)
+  -- the least head with a plan is at or before every entry
+  pub least_of_all : (w : ℕ) → ((v : ℕ) → v < k → entry_before meaning.before (entry_in cells (base + w)) (entry_in cells (base + v)) ≡ true) → ((entry_in cells (base + w)).score ≡ None → ⊥) →
+      (v : ℕ) → v < k * m → entry_before meaning.before (entry_in cells (base + w)) (entry_in cells (base + v)) ≡ true
+  least_of_all w least scored v l = ⊎_elim (least v) (λ g. ⊎_elim
+      (before_none meaning laws (entry_in cells (base + w)) (entry_in cells (base + v)) scored)
+      (λ has. let r = behind_head v g l has in chain meaning laws (entry_in cells (base + w)) (entry_in cells (base + r.0)) (entry_in cells (base + v)) (least r.0 r.1) r.2)
+      (scored_or_not (entry_in cells (base + v)).score)) (cases_lt v k)
 
 -- the heads are among the entries
 pub heads_le : (k m : ℕ) → 1 ≤ m → k ≤ k * m
@@ -91,22 +89,27 @@ pub in_use : {M V : Type 0} (cells : List (Cell M V)) (base n m k rows w : ℕ) 
 in_use cells base n m k rows w some rows_in l has = let s = rows_in.queue.safe w (head_in k m w some l) has in
     (⊎_elim (λ h. absurd (let d = rows_in.heads w (omega arith) (omega arith) l in let e = s.0 in omega arith)) (λ h. h) (cases_lt rows w), s.0, s.1)
 
-module _ {M V : Type 0} (meaning : MeasureMeaning V) (laws : Laws meaning.nought meaning.joined meaning.before) (cells : List (Cell M V)) (n : ℕ) (j : Job) (base k : ℕ) (τ : Task (Option V)) (H : ℕ → ℕ → Option V)
-    (given : List (ℕ → ℕ)) (tables : Tables meaning cells n (stops_of j) τ H) (waits : Partition (optional meaning) τ H given (k * length (stops_of j)) (waiting_in cells base)) where
-  -- with no rows there are no entries
-  pub no_rows : k ≡ 0 → NoneLeft (optional meaning) τ given
-  no_rows z = all_none (optional meaning) (lifted meaning laws) τ H tables.holds.rooted tables.minimal given (k * length (stops_of j)) (waiting_in cells base) waits
-      (λ w l. absurd (let l' = subst (λ (x : ℕ). w < x * length (stops_of j)) z l in omega arith))
+-- the head in which the first plan waits has a plan, is in use and can be split; and it has the first plan left, or no plan
+-- is left
+module _ {M V : Type 0} (meaning : MeasureMeaning V) (cells : List (Cell M V)) (base m k : ℕ) where
+  pub some_head : (r : Option ℕ) → FirstWaiting meaning cells base k r → IfSome r (λ w. (w < k) × ((entry_in cells (base + w)).score ≡ None → ⊥))
+  some_head None f = tt
+  some_head (Some w) f = (f.some.0, f.some.1)
 
-  module _ (rows : ℕ) (rows_in : Rows cells base n (length (stops_of j)) k rows) (led : AllLed meaning cells base (length (stops_of j)) k rows)
-      (w : ℕ) (wl : w < k) (least : (v : ℕ) → v < k → entry_before meaning.before (entry_in cells (base + w)) (entry_in cells (base + v)) ≡ true) where
-    pub no_plan : (entry_in cells (base + w)).score ≡ None → NoneLeft (optional meaning) τ given
-    no_plan none = all_none (optional meaning) (lifted meaning laws) τ H tables.holds.rooted tables.minimal given (k * length (stops_of j)) (waiting_in cells base) waits
-        (none_at_all meaning laws cells n (length (stops_of j)) base k rows (some_stop j) rows_in led w wl least none)
+  pub ready_head : (n rows : ℕ) (r : Option ℕ) → 1 ≤ m → FirstWaiting meaning cells base k r → Rows cells base n m k rows →
+      IfSome r (λ w. (w ≤ rows) × ((entry_in cells (base + w)).depth < m) × ((t : ℕ) → t < m → places_of (entry_in cells (base + w)).places t < n))
+  ready_head n rows None some f rows_in = tt
+  ready_head n rows (Some w) some f rows_in = in_use cells base n m k rows w some rows_in f.some.0 f.some.1
 
-    pub chosen : ((entry_in cells (base + w)).score ≡ None → ⊥) → Chosen (optional meaning) τ (k * length (stops_of j)) (waiting_in cells base) w
-    chosen has = chosen_by (optional meaning) (lifted meaning laws) τ H tables.holds.rooted tables.minimal 12 (k * length (stops_of j)) w (waiting_in cells base) (let e = tables.holds.size in let f = few_stops j in omega arith)
-        (head_in k (length (stops_of j)) w (some_stop j) wl) waits.first (least_of_all meaning laws cells n (length (stops_of j)) base k rows (some_stop j) rows_in led w wl least has) has
-
-    pub first_left : ((entry_in cells (base + w)).score ≡ None → ⊥) → FirstLeft (optional meaning) τ given (places_of (entry_in cells (base + w)).places) (entry_in cells (base + w)).score
-    first_left has = chosen_foremost (optional meaning) (lifted meaning laws) τ H tables.holds.rooted tables.minimal given (k * length (stops_of j)) (waiting_in cells base) waits w (chosen has)
+  pub head_plan : (r : Option ℕ) → 1 ≤ m → m ≤ 12 → Laws meaning.nought meaning.joined meaning.before → FirstWaiting meaning cells base k r → HeadPlan meaning cells base m k r
+  head_plan None some few laws f = record {
+    told = λ τ H n rows stops given size tables rows_in led waits.
+        no_plan meaning laws cells n stops base (k * m) τ H given tables waits (none_at_all meaning laws cells n m base k rows some rows_in led (f.none refl));
+  }
+  head_plan (Some w) some few laws f = record {
+    told = λ τ H n rows stops given size tables rows_in led waits.
+        let l = head_in k m w some f.some.0 in let least = least_of_all meaning laws cells n m base k rows some rows_in led w f.some.2 f.some.1 in (
+          chosen meaning laws cells n stops base (k * m) τ H given tables waits (omega arith) w l least f.some.1,
+          first_left meaning laws cells n stops base (k * m) τ H given tables waits (omega arith) w l least f.some.1,
+        );
+  }

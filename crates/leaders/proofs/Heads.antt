@@ -1,5 +1,5 @@
 -- Two entries change places, and the earliest of a row becomes its head.
-use Rattle.std.proofs.Common.{◌≡◌, ℕ, ◌+◌, ◌-◌, ◌<◌, Bool, true, false, not, ◌⊎◌, List, get_or, sym, refl, ap, ◌∙◌, subst, ap₂, inl, inr, ⊎_elim, arith}
+use Rattle.std.proofs.Common.{◌≡◌, ℕ, ◌+◌, ◌-◌, ◌<◌, ◌≤◌, Bool, true, false, not, ◌⊎◌, List, get_or, Some, None, Option, MatchOption, sym, refl, ap, ◌∙◌, subst, ap₂, inl, inr, ⊎_elim, arith}
 use Rattle.std.proofs.lemmas.Bool.{both_ways, cases_eq}
 use Rattle.measures.specs.Laws.{Laws}
 use Rattle.measures.specs.Meaning.{MeasureMeaning}
@@ -71,10 +71,16 @@ module _ {M V : Type 0} where
           (λ x. record { from = row_start m k row + u; inside = inr (omega arith, omega arith); exchanged = x })
           moved
 
+  -- where nothing has changed, the head leads that was promoted
+  pub no_promotion : (cells : List (Cell M V)) (base m k row : ℕ) → Promoted cells cells base m k row
+  no_promotion cells base m k row = record { from = row; inside = inl refl; exchanged = no_exchange cells (base + row) }
+
   -- the least of the cells of a row behind its head, which begin in cell `start`
-  pub earliest_is : (meaning : MeasureMeaning V) (cells : List (Cell M V)) (base m k row start u : ℕ) → start ≡ base + row_start m k row →
-      (start + u < start + (m - 1)) × ((v : ℕ) → start + v < start + (m - 1) → entry_before meaning.before (entry_in cells (start + u)) (entry_in cells (start + v)) ≡ true) → Earliest meaning cells base m k row u
-  earliest_is meaning cells base m k row start u is h = let l = h.0 in record {
+  pub earliest_is : (meaning : MeasureMeaning V) (cells : List (Cell M V)) (base m k row start : ℕ) → start ≡ base + row_start m k row → (r : Option ℕ) →
+      MatchOption r (start + (m - 1) ≤ start) (λ u. (start + u < start + (m - 1)) × ((v : ℕ) → start + v < start + (m - 1) → entry_before meaning.before (entry_in cells (start + u)) (entry_in cells (start + v)) ≡ true)) →
+      MatchOption r (m ≤ 1) (λ u. Earliest meaning cells base m k row u)
+  earliest_is meaning cells base m k row start is None h = omega arith
+  earliest_is meaning cells base m k row start is (Some u) h = let l = h.0 in record {
     inside = omega arith;
     least = λ v k. ap₂ (entry_before meaning.before) (at u) (at v) ∙ h.1 v (omega arith);
   } where

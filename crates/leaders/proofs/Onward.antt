@@ -1,10 +1,13 @@
 -- Exchanging two entries of a row keeps the queue, the partition and every other row's leader.
-use Rattle.std.proofs.Common.{◌≡◌, ℕ, ◌+◌, ◌-◌, ◌*◌, ◌/◌, ◌<◌, ◌≤◌, ◌⊎◌, List, Option, sym, ap, ◌∙◌, subst, ap₂, inl, ⊎_elim, arith}
+use Rattle.std.proofs.Common.{◌≡◌, ℕ, ◌+◌, ◌-◌, ◌*◌, ◌/◌, ◌<◌, ◌≤◌, ◌⊎◌, List, length, Option, sym, ap, ◌∙◌, subst, ap₂, inl, ⊎_elim, arith}
 use Rattle.std.proofs.lemmas.Nat.{mul-le, div-mul-add}
 use Rattle.std.proofs.lemmas.Bool.{cases_lt, cases_eq}
 use Rattle.measures.specs.Laws.{Laws}
 use Rattle.measures.specs.Meaning.{MeasureMeaning}
 use Rattle.measures.specs.Scales.{optional}
+use Rattle.jobs.specs.declared.job.Job.{Job}
+use Rattle.jobs.specs.Jobs.{stops_of}
+use Rattle.jobs.proofs.Ties.{some_stop}
 use Rattle.trees.specs.Tasks.{Task, Rooted}
 use Rattle.trees.specs.Minima.{Minimal}
 use Rattle.trees.specs.Rounds.{Partition}
@@ -14,10 +17,10 @@ use Rattle.cells.specs.declared.cell.Cell.{Cell}
 use Rattle.cells.specs.declared.cell.Entry.{Entry}
 use Rattle.cells.specs.Cells.{space_of, entry_before}
 use Rattle.tables.specs.Tables.{entry_in, Kept}
-use Rattle.waiting.specs.Queues.{waiting_in, row_start, Safe}
-use Rattle.waiting.proofs.Keeping.{same_entry}
+use Rattle.waiting.specs.Queues.{waiting_in, row_start, Safe, SplitOff}
+use Rattle.waiting.proofs.Keeping.{same_entry, tables_kept}
 use Rattle.waiting.proofs.Stepping.{row_ends}
-use Rattle.leaders.specs.Leaders.{Promoted, Led, AllLed, Rows}
+use Rattle.leaders.specs.Leaders.{Promoted, Led, AllLed, Rows, Givable, Advanced}
 use Rattle.leaders.proofs.Foremost.{head_in}
 
 -- two rows have no entry in common
@@ -98,3 +101,46 @@ module _ {M V : Type 0} (meaning : MeasureMeaning V) (old mid one new : List (Ce
     where
       used : (r : ℕ) → r < rows + 1 → (r ≡ rows → ⊥) → r < rows
       used r l d = ⊎_elim (λ h. h) (λ h. absurd (d (omega arith))) (cases_lt r rows)
+
+-- the numbers by which a row stands, in place of equal ones
+moved : (P : ℕ → ℕ → ℕ → Type 0) (b b' m m' k k' : ℕ) → b ≡ b' → m ≡ m' → k ≡ k' → P b m k → P b' m' k'
+moved P b b' m m' k k' p q r h = subst (λ x. P x m' k') p (subst (λ x. P b x k') q (subst (λ x. P b m x) r h))
+
+-- after a split and the two promotions one plan more is given
+module _ {M V : Type 0} (meaning : MeasureMeaning V) (laws : Laws meaning.nought meaning.joined meaning.before) (j : Job) (n base k rows w b m' k' b₂ m₂ k₂ : ℕ) (old mid one new : List (Cell M V))
+    (givable : Givable old n (stops_of j) base k rows w) (split : SplitOff meaning (stops_of j) n base k rows w old mid)
+    (same-base : b ≡ base) (same-m : m' ≡ length (stops_of j)) (same-k : k' ≡ k) (again-base : b₂ ≡ base) (again-m : m₂ ≡ length (stops_of j)) (again-k : k₂ ≡ k)
+    (led-one : Led meaning one b m' k' w) (to-one : Promoted mid one b m' k' w) (led-new : Led meaning new b₂ m₂ k₂ rows) (to-new : Promoted one new b₂ m₂ k₂ rows) where
+  some : 1 ≤ length (stops_of j)
+  some = some_stop j
+
+  rl : rows < k
+  rl = givable.split.row
+
+  wl : w < k
+  wl = let h = givable.head in let l = givable.split.row in omega arith
+
+  first : Promoted mid one base (length (stops_of j)) k w
+  first = moved (λ x y z. Promoted mid one x y z w) b base m' (length (stops_of j)) k' k same-base same-m same-k to-one
+
+  second : Promoted one new base (length (stops_of j)) k rows
+  second = moved (λ x y z. Promoted one new x y z rows) b₂ base m₂ (length (stops_of j)) k₂ k again-base again-m again-k to-new
+
+  kept : Kept base old new
+  kept i l = kept_promoted one new base (length (stops_of j)) k rows some rl second i l ∙ kept_promoted mid one base (length (stops_of j)) k w some wl first i l ∙ split.kept i l
+
+  pub advanced : Advanced meaning (stops_of j) n base k rows w old new
+  advanced = record {
+    kept = kept;
+    tables = tables_kept old new n base (stops_of j) givable.split.behind kept meaning;
+    used = λ in_use. rows_promoted one new base (length (stops_of j)) k rows some rl second n (rows + 1) (omega arith)
+        (rows_promoted mid one base (length (stops_of j)) k w some wl first n (rows + 1) (let h = givable.head in omega arith) record { queue = split.queue in_use.queue; heads = split.heads in_use.heads });
+    led = all_led meaning old mid one new base (length (stops_of j)) k rows w some rl wl split.others first second
+        (moved (λ x y z. Led meaning one x y z w) b base m' (length (stops_of j)) k' k same-base same-m same-k led-one)
+        (moved (λ x y z. Led meaning new x y z rows) b₂ base m₂ (length (stops_of j)) k₂ k again-base again-m again-k led-new);
+    stands = λ τ H given tables in_use waits chosen. partition_promoted one new base (length (stops_of j)) k rows some rl second meaning laws τ H tables.holds.rooted tables.minimal _
+        (partition_promoted mid one base (length (stops_of j)) k w some wl first meaning laws τ H tables.holds.rooted tables.minimal _ (split.stands τ H given tables in_use.queue waits chosen));
+  }
+
+  pub advanced_to : (end : List (Cell M V)) → end ≡ new → Advanced meaning (stops_of j) n base k rows w old end
+  advanced_to end e = subst (λ (cells : List (Cell M V)). Advanced meaning (stops_of j) n base k rows w old cells) (sym e) advanced

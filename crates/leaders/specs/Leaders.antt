@@ -1,11 +1,11 @@
 -- Rows of waiting subspaces, each led by its head. The head of row r is entry r, and its other entries begin at
 -- `row_start`. Where every row in use is led, the least of the k heads is the least of all k x m entries.
-use Rattle.std.specs.Prelude.{◌≡◌, ℕ, ◌+◌, ◌-◌, ◌*◌, ◌<◌, ◌≤◌, true, ◌⊎◌, List, ◌∷◌, length, Option, ◌≢◌, slice_index_or}
+use Rattle.std.specs.Prelude.{◌≡◌, ℕ, ◌+◌, ◌-◌, ◌*◌, ◌<◌, ◌≤◌, true, ◌⊎◌, List, ◌∷◌, length, Option, MatchOption, ◌≢◌, slice_index_or}
 use Rattle.measures.specs.Meaning.{MeasureMeaning}
 use Rattle.measures.specs.Scales.{optional}
 use Rattle.jobs.specs.declared.stops.Stop.{Stop}
 use Rattle.trees.specs.Tasks.{Task}
-use Rattle.trees.specs.Rounds.{Partition, Chosen}
+use Rattle.trees.specs.Rounds.{Partition, Chosen, FirstLeft, NoneLeft}
 use Rattle.cells.specs.declared.cell.Cell.{Cell}
 use Rattle.cells.specs.Cells.{places_of, entry_before}
 use Rattle.tables.specs.Tables.{blank, entry_in, Kept}
@@ -41,6 +41,14 @@ pub record Promoted {M V : Type 0} (old new : List (Cell M V)) (base m k row : �
 pub record Rows {M V : Type 0} (cells : List (Cell M V)) (base n m k rows : ℕ) : Type 0 where
   pub queue : Queue cells base n m k rows
   pub heads : FreeHeads cells base m k rows
+
+-- of the heads of k rows, r is the one in which the first plan waits that is not given, where the rows in use are led; r is
+-- none where no plan is left
+pub record HeadPlan {M V : Type 0} (meaning : MeasureMeaning V) (cells : List (Cell M V)) (base m k : ℕ) (r : Option ℕ) : Type 0 where
+  pub told : (τ : Task (Option V)) (H : ℕ → ℕ → Option V) (n rows : ℕ) (stops : List Stop) (given : List (ℕ → ℕ)) → length stops ≡ m → Tables meaning cells n stops τ H →
+      Rows cells base n m k rows → AllLed meaning cells base m k rows → Partition (optional meaning) τ H given (k * m) (waiting_in cells base) →
+      MatchOption r (NoneLeft (optional meaning) τ given) (λ w. Chosen (optional meaning) τ (k * m) (waiting_in cells base) w
+      × FirstLeft (optional meaning) τ given (places_of (entry_in cells (base + w)).places) (entry_in cells (base + w)).score)
 
 -- head w is in use and can be split
 pub record Givable {M V : Type 0} (cells : List (Cell M V)) (n : ℕ) (stops : List Stop) (base k rows w : ℕ) : Type 0 where

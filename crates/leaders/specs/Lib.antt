@@ -1,1 +1,2 @@
 pub mod Leaders
+pub mod Lent

@@ -1,20 +1,13 @@
-ghost use Rattle.std.specs.Prelude.{◌≡◌, ℕ, ◌+◌, ◌-◌, ◌*◌, ◌<◌, ◌≤◌, true, not, ◌⊎◌, List, length, IfSome, None, Option, MatchOption, ◌≢◌};
+ghost use Rattle.std.specs.Prelude.{◌≡◌, ℕ, ◌+◌, ◌-◌, ◌*◌, ◌<◌, ◌≤◌, true, not, ◌⊎◌, length, IfSome, None, MatchOption, ◌≢◌};
 ghost use Rattle.cells.specs.Cells.{entry_before, places_of};
 ghost use Rattle.tables.specs.Tables.{entry_in};
-ghost use Rattle.leaders.specs.Leaders.{Earliest, Exchanged, Led, Promoted, AllLed, Rows};
-ghost use Rattle.jobs.specs.Jobs.{stops_of};
-ghost use Rattle.measures.specs.Scales.{optional};
-ghost use Rattle.trees.specs.Tasks.{Task};
-ghost use Rattle.trees.specs.Rounds.{Partition, Chosen, FirstLeft, NoneLeft};
-ghost use Rattle.minima.specs.Tables.{Tables};
-ghost use Rattle.waiting.specs.Queues.{waiting_in};
+ghost use Rattle.leaders.specs.Leaders.{Earliest, Exchanged, Led, Promoted, Rows, HeadPlan};
 
 use cells::cell::Cell;
-use jobs::job::Job;
 use least::TotalOrder;
 use measures::Measure;
 use tables::access::{cell_at, set_entry};
-use waiting::picking::{least_in, with_plan};
+use waiting::picking::{first_in, least_in};
 use waiting::queue::Entries;
 
 // Two waiting subspaces change places; nothing else changes. No `swap`, which would move the other parts of the cells too.
@@ -47,69 +40,71 @@ fn lead<M: Measure>(cells: &mut [Cell<M, M::Value>], head: usize, at: usize)
     }
 }
 
-// The earliest entry of a row behind its head, counted from the first behind it.
-fn earliest_behind<'a, M: Measure>(
-    cells: &'a [Cell<M, M::Value>],
-    entries: &Entries,
-    row: usize,
-) -> usize
-where
-    M: 'a,
-    M::Value: 'a,
-    requires { let e = entries.now in (2 ≤ e.m) × (row < e.k) × (e.base + e.k * e.m ≤ length cells.now) }
-    ensures { let e = entries.now in Earliest M.Measure.meaning cells.now e.base e.m e.k row result }
-{
-    let start = entries.behind(row);
-    match least_in::<M>(cells, start, start + (entries.m - 1)) {
-        Some(u) => u,
-        None => unreachable(),
+// The waiting subspaces of k plans, in rows in lent cells.
+#[derive(Drop)]
+pub struct RowsMut<'a, M, V> {
+    cells: &'a mut [Cell<M, V>],
+    entries: Entries,
+    ghost room: { entries.base + entries.k * entries.m ≤ length cells.now },
+}
+
+impl<'a, M: Measure> RowsMut<'a, M, M::Value> {
+    ghost use Rattle.leaders.specs.Lent.{SameRows};
+
+    // The rows of these entries in these cells.
+    pub fn new(cells: &'a mut [Cell<M, M::Value>], entries: Entries) -> RowsMut<'a, M, M::Value>
+        requires { entries.base + entries.k * entries.m ≤ length cells.old }
+        ensures same { (result.entries ≡ entries) × (result.cells.ghost_name ≡ cells.entry.ghost_name) }
+        ensures cells { result.cells.now ≡ cells.old }
+    {
+        RowsMut { cells, entries }
     }
-}
 
-// The earlier of a row's head and its entry u behind the head becomes the head.
-fn lead_row<M: Measure>(cells: &mut [Cell<M, M::Value>], entries: &Entries, row: usize, u: usize)
-    requires { let e = entries.now in (row < e.k) × (e.base + e.k * e.m ≤ length cells.old) × (u < e.m - 1) }
-    ensures led { let e = entries.now in Earliest M.Measure.meaning cells.old e.base e.m e.k row u → Led M.Measure.meaning cells.new e.base e.m e.k row }
-    ensures promoted { let e = entries.now in Promoted cells.old cells.new e.base e.m e.k row }
-{
-    let at = entries.behind(row) + u;
-    lead::<M>(cells, entries.base + row, at);
-}
+    // The earliest entry of a row behind its head, counted from the first behind it; none where the head is all of the row.
+    fn earliest_behind(&self, row: usize) -> Option<usize>
+        requires { row < self.now.entries.k }
+        ensures { let e = self.now.entries in MatchOption result (e.m ≤ 1) (λ u. Earliest M.Measure.meaning self.now.cells.now e.base e.m e.k row u) }
+    {
+        let start = self.entries.behind(row);
+        least_in::<M>(self.cells, start, start + (self.entries.m - 1))
+    }
 
-// The earliest entry of a row becomes its head.
-pub fn promote<M: Measure>(cells: &mut [Cell<M, M::Value>], entries: &Entries, row: usize)
-    requires { let e = entries.now in (row < e.k) × (e.base + e.k * e.m ≤ length cells.old) }
-    ensures led { let e = entries.now in Led M.Measure.meaning cells.new e.base e.m e.k row }
-    ensures promoted { let e = entries.now in Promoted cells.old cells.new e.base e.m e.k row }
-{
-    if entries.m > 1 {
-        let u = earliest_behind::<M>(cells, entries, row);
-        lead_row::<M>(cells, entries, row, u);
+    // The earlier of a row's head and its entry u behind the head becomes the head.
+    fn lead_row(&mut self, row: usize, u: usize)
+        requires { let e = self.old.entries in (row < e.k) × (u < e.m - 1) }
+        ensures led { let e = self.old.entries in Earliest M.Measure.meaning self.old.cells.now e.base e.m e.k row u → Led M.Measure.meaning self.new.cells.now e.base e.m e.k row }
+        ensures promoted { let e = self.old.entries in Promoted self.old.cells.now self.new.cells.now e.base e.m e.k row }
+        ensures kept { SameRows self.old self.new }
+    {
+        let at = self.entries.behind(row) + u;
+        lead::<M>(self.cells, self.entries.base + row, at);
+    }
+
+    // The earliest entry of a row becomes its head.
+    #[tactic(auto, using(crate::proofs::Heads::no_promotion))]
+    pub fn promote(&mut self, row: usize)
+        requires { row < self.old.entries.k }
+        ensures led { let e = self.old.entries in Led M.Measure.meaning self.new.cells.now e.base e.m e.k row }
+        ensures promoted { let e = self.old.entries in Promoted self.old.cells.now self.new.cells.now e.base e.m e.k row }
+        ensures kept { SameRows self.old self.new }
+    {
+        if let Some(u) = self.earliest_behind(row) {
+            self.lead_row(row, u);
+        }
     }
 }
 
 // Where the first plan waits that is not given, or none where no plan is left. Only the heads of the rows are looked at.
-pub fn find_head<'a, M: Measure>(
-    cells: &'a [Cell<M, M::Value>],
-    job: &Job,
-    base: usize,
-    k: usize,
-) -> Option<usize>
+#[tactic(auto, using(crate::proofs::Foremost::heads_le, crate::proofs::Foremost::some_head, crate::proofs::Foremost::ready_head, crate::proofs::Foremost::head_plan))]
+pub fn find_head<'a, M: Measure>(cells: &'a [Cell<M, M::Value>], entries: &Entries) -> Option<usize>
 where
     M: 'a,
     M::Value: 'a,
-    requires { (base ≤ 4864) × (k ≤ 256) × (base + k * length (stops_of job.now) ≤ length cells.now) }
-    ensures some { IfSome result (λ w. (w < k) × ((entry_in cells.now (base + w)).score ≢ None)) }
-    ensures ready { (n rows : ℕ) → Rows cells.now base n (length (stops_of job.now)) k rows → IfSome result (λ w. (w ≤ rows) × ((entry_in cells.now (base + w)).depth < length (stops_of job.now))
-        × ((t : ℕ) → t < length (stops_of job.now) → places_of (entry_in cells.now (base + w)).places t < n)) }
-    ensures plan { (τ : Task (Option M.Value)) (H : ℕ → ℕ → Option M.Value) (n rows : ℕ) (given : List (ℕ → ℕ)) → Tables M.Measure.meaning cells.now n (stops_of job.now) τ H →
-        Rows cells.now base n (length (stops_of job.now)) k rows → AllLed M.Measure.meaning cells.now base (length (stops_of job.now)) k rows →
-        Partition (optional M.Measure.meaning) τ H given (k * length (stops_of job.now)) (waiting_in cells.now base) →
-        MatchOption result (NoneLeft (optional M.Measure.meaning) τ given) (λ w. Chosen (optional M.Measure.meaning) τ (k * length (stops_of job.now)) (waiting_in cells.now base) w
-        × FirstLeft (optional M.Measure.meaning) τ given (places_of (entry_in cells.now (base + w)).places) (entry_in cells.now (base + w)).score) }
+    requires { let e = entries.now in e.base + e.k * e.m ≤ length cells.now }
+    ensures some { let e = entries.now in IfSome result (λ w. (w < e.k) × ((entry_in cells.now (e.base + w)).score ≢ None)) }
+    ensures ready { let e = entries.now in (n rows : ℕ) → Rows cells.now e.base n e.m e.k rows → IfSome result (λ w. (w ≤ rows) × ((entry_in cells.now (e.base + w)).depth < e.m)
+        × ((t : ℕ) → t < e.m → places_of (entry_in cells.now (e.base + w)).places t < n)) }
+    ensures plan { let e = entries.now in HeadPlan M.Measure.meaning cells.now e.base e.m e.k result }
 {
-    match least_in::<M>(cells, base, base + k) {
-        None => None,
-        Some(w) => with_plan(cells, base, w),
-    }
+    first_in::<M>(cells, entries.base, entries.k)
 }

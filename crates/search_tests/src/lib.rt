@@ -16,7 +16,6 @@ use measures::optional::join_options;
 use minima::board::BoardMut;
 use minima::links::link_at;
 use tables::access::{cell_at, stop_at};
-use waiting::picking::find_next;
 use waiting::queue::Waiting;
 
 // Three places and three stops: so 27 placements, and one plan more is wanted.
@@ -36,7 +35,7 @@ const CELLS: usize = 102;
 // What is wrong with an enumeration.
 #[derive(Debug, PartialEq, Eq, Clone, Copy)]
 enum Wrong {
-    // the job or the cells are not as the tests take them
+    // the job is not as the tests take it
     Setting,
     // a plan is given before another that comes before it, or it is none
     Turn,
@@ -72,9 +71,11 @@ fn fill<M: Measure>(cells: &mut [Cell<M, M::Value>], seed: u64) {
 }
 
 // The placement with this number, with its score joined from the tables.
-fn laid_out<M: Measure>(cells: &[Cell<M, M::Value>], job: &Job, q: usize) -> Entry<M::Value>
-    requires { length cells.now ≡ CELLS }
-{
+fn laid_out<M: Measure>(
+    cells: &[Cell<M, M::Value>; CELLS],
+    job: &Job,
+    q: usize,
+) -> Entry<M::Value> {
     let a = q / 9 % 3;
     let b = q / 3 % 3;
     let c = q % 3;
@@ -98,9 +99,7 @@ fn laid_out<M: Measure>(cells: &[Cell<M, M::Value>], job: &Job, q: usize) -> Ent
 }
 
 // How many placements are plans.
-fn plans<M: Measure>(cells: &[Cell<M, M::Value>], job: &Job) -> usize
-    requires { length cells.now ≡ CELLS }
-{
+fn plans<M: Measure>(cells: &[Cell<M, M::Value>; CELLS], job: &Job) -> usize {
     (0..PLACEMENTS)
         .filter(|q| laid_out::<M>(cells, job, *q).score.is_some())
         .count()
@@ -112,9 +111,11 @@ fn level<M: Measure>(a: &Entry<M::Value>, b: &Entry<M::Value>) -> bool {
 }
 
 // How many plans come before this one, none where it is none of them.
-fn rank<M: Measure>(cells: &[Cell<M, M::Value>], job: &Job, plan: &Entry<M::Value>) -> Option<usize>
-    requires { length cells.now ≡ CELLS }
-{
+fn rank<M: Measure>(
+    cells: &[Cell<M, M::Value>; CELLS],
+    job: &Job,
+    plan: &Entry<M::Value>,
+) -> Option<usize> {
     plan.score?;
     if !(0..PLACEMENTS).any(|q| level::<M>(plan, &laid_out::<M>(cells, job, q))) {
         return None;
@@ -127,8 +128,8 @@ fn rank<M: Measure>(cells: &[Cell<M, M::Value>], job: &Job, plan: &Entry<M::Valu
 
 // Gives the plans in turn: each has just as many plans before it as are given, and at the end all are given. The pick
 // among all entries finds the plan that the pick among the heads finds.
-fn enumerate<M: Measure>(cells: &mut [Cell<M, M::Value>], job: &Job) -> Result<(), Wrong>
-    requires { (length cells.old ≡ CELLS) × (length (stops_of job.now) ≡ STOPS) × Rows cells.old BASE PLACES (length (stops_of job.now)) WANTED 0 }
+fn enumerate<M: Measure>(cells: &mut [Cell<M, M::Value>; CELLS], job: &Job) -> Result<(), Wrong>
+    requires { (length (stops_of job.now) ≡ STOPS) × Rows cells.old BASE PLACES (length (stops_of job.now)) WANTED 0 }
 {
     let waiting = Waiting {
         n: PLACES,
@@ -136,8 +137,9 @@ fn enumerate<M: Measure>(cells: &mut [Cell<M, M::Value>], job: &Job) -> Result<(
         base: BASE,
         k: WANTED,
     };
+    let entries = waiting.entries();
     for given in 0..WANTED {
-        let Some(w) = find_head::<M>(cells, job, BASE, WANTED) else {
+        let Some(w) = find_head::<M>(cells, &entries) else {
             let all = given == plans::<M>(cells, job);
             return if all { Ok(()) } else { Err(Wrong::Count) };
         };
@@ -145,7 +147,7 @@ fn enumerate<M: Measure>(cells: &mut [Cell<M, M::Value>], job: &Job) -> Result<(
         if rank::<M>(cells, job, &plan) != Some(given) {
             return Err(Wrong::Turn);
         }
-        let Some(v) = find_next::<M>(cells, job, BASE, WANTED) else {
+        let Some(v) = entries.find_next::<M>(cells) else {
             return Err(Wrong::Turn);
         };
         if cell_at(cells, BASE + v).entry.places != plan.places {
@@ -157,8 +159,12 @@ fn enumerate<M: Measure>(cells: &mut [Cell<M, M::Value>], job: &Job) -> Result<(
 }
 
 // Fills the tables at random and enumerates the plans.
-fn run<M: Measure>(cells: &mut [Cell<M, M::Value>], job: &Job, seed: u64) -> Result<(), Wrong> {
-    if cells.len() != CELLS || job.len() != STOPS {
+fn run<M: Measure>(
+    cells: &mut [Cell<M, M::Value>; CELLS],
+    job: &Job,
+    seed: u64,
+) -> Result<(), Wrong> {
+    if job.len() != STOPS {
         return Err(Wrong::Setting);
     }
     fill::<M>(cells, seed);
@@ -174,10 +180,7 @@ fn run<M: Measure>(cells: &mut [Cell<M, M::Value>], job: &Job, seed: u64) -> Res
 }
 
 // Whether random tables have six plans or more, so that a comparison over them says something.
-fn many_plans<M: Measure>(cells: &mut [Cell<M, M::Value>], job: &Job, seed: u64) -> bool {
-    if cells.len() != CELLS {
-        return false;
-    }
+fn many_plans<M: Measure>(cells: &mut [Cell<M, M::Value>; CELLS], job: &Job, seed: u64) -> bool {
     fill::<M>(cells, seed);
     plans::<M>(cells, job) >= 6
 }
@@ -211,7 +214,7 @@ mod tests {
     }
 
     // Forty tables for each of two trees.
-    fn run_all<M: Measure>(cells: &mut [Cell<M, M::Value>]) -> Result<(), Wrong> {
+    fn run_all<M: Measure>(cells: &mut [Cell<M, M::Value>; CELLS]) -> Result<(), Wrong> {
         let chain = tree(1, Link::Direct, Link::Ride).ok_or(Wrong::Setting)?;
         let fork = tree(0, Link::Ride, Link::Direct).ok_or(Wrong::Setting)?;
         for seed in 1..41 {
@@ -222,7 +225,7 @@ mod tests {
     }
 
     // In how many of forty tables there are many plans.
-    fn plentiful<M: Measure>(cells: &mut [Cell<M, M::Value>]) -> Option<usize> {
+    fn plentiful<M: Measure>(cells: &mut [Cell<M, M::Value>; CELLS]) -> Option<usize> {
         let chain = tree(1, Link::Direct, Link::Ride)?;
         let count = (1..41)
             .filter(|seed| many_plans::<M>(cells, &chain, *seed))

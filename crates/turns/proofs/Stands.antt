@@ -1,5 +1,5 @@
 -- How the plans of a job over a street stand in the cells at the start, and after one more is given.
-use Rattle.std.proofs.Common.{◌≡◌, ℕ, ◌+◌, ◌*◌, ◌<◌, ◌≤◌, List, length, IfSome, Some, None, Option, sym, ap, subst, arith, MatchOption}
+use Rattle.std.proofs.Common.{◌≡◌, ℕ, suc, ◌+◌, ◌*◌, ◌<◌, ◌≤◌, List, [], ◌∷◌, length, IfSome, Some, None, Option, sym, refl, ap, ◌∙◌, subst, add-one, arith, MatchOption}
 use Rattle.measures.specs.Laws.{Laws}
 use Rattle.measures.specs.Meaning.{MeasureMeaning}
 use Rattle.streets.specs.Meaning.{StreetMeaning, Sound as StreetSound}
@@ -25,10 +25,11 @@ use Rattle.tours.proofs.Turns.{tour_laws_lem}
 use Rattle.minima.specs.Tables.{Holds, Tables}
 use Rattle.minima.specs.Boards.{SameBoard}
 use Rattle.minima.specs.declared.board.BoardMut.{BoardMut}
-use Rattle.jobs.proofs.Ties.{job_tree}
+use Rattle.jobs.proofs.Ties.{job_tree, some_stop}
 use Rattle.waiting.specs.Queues.{waiting_in}
-use Rattle.leaders.specs.Leaders.{AllLed, Rows, Givable}
-use Rattle.turns.specs.Standing.{behind_tables, Roomy, Tabled, Standing}
+use Rattle.leaders.specs.Leaders.{AllLed, Rows, Givable, Advanced, HeadPlan}
+use Rattle.leaders.proofs.Foremost.{head_in}
+use Rattle.turns.specs.Standing.{behind_tables, needed, Roomy, Tabled, Standing, Waits, Looked, Gave}
 
 -- the first plan left is the one that is chosen among the subspaces
 pub chosen_if_first : {W : Type 0} (σ : Scale W) (sound : Sound σ) (τ : Task W) (H : ℕ → ℕ → W) → Rooted τ → Minimal σ τ H → (given : List (ℕ → ℕ)) (len : ℕ) (E : ℕ → Subspace W) (w : ℕ) → Partition σ τ H given len E → w < len →
@@ -126,3 +127,71 @@ splittable cells n k rows base stops roomy is low row (Some w) h = let room = ro
     placed = subst (λ (b : ℕ). (t : ℕ) → t < length stops → places_of (entry_in cells (b + w)).places t < n) is h.2;
   };
 }
+
+-- a fact of four values, in place of equal ones
+moved : (J : Type 0) (P : ℕ → J → ℕ → ℕ → Type 0) (n n' : ℕ) (j j' : J) (b b' k k' : ℕ) → n ≡ n' → j ≡ j' → b ≡ b' → k ≡ k' → P n j b k → P n' j' b' k'
+moved J P n n' j j' b b' k k' p q r s h = subst (λ x. P x j' b' k') p (subst (λ x. P n x b' k') q (subst (λ x. P n j x k') r (subst (λ x. P n j b x) s h)))
+
+-- there are cells for what waits behind the tables
+pub room_there : {M V : Type 0} (cells : List (Cell M V)) (n n' : ℕ) (j j' : Job) (b k k' : ℕ) → n' ≡ n → j' ≡ j → b ≡ behind_tables n (length (stops_of j)) → k' ≡ k → 1 ≤ k → needed n (length (stops_of j)) k ≤ length cells →
+    (1 ≤ k') × (b + k' * length (stops_of j') ≤ length cells)
+room_there cells n n' j j' b k k' p q r s one room =
+    moved Job (λ x i c y. (1 ≤ y) × (c + y * length (stops_of i) ≤ length cells)) n n' j j' (behind_tables n (length (stops_of j))) b k k' (sym p) (sym q) (sym r) (sym s) (one, room)
+
+-- all plans wait in the entries from cell `base` on, over the tables that were there
+pub record AllWait {M V : Type 0} (meaning : MeasureMeaning V) (n : ℕ) (j : Job) (base k : ℕ) (old new : List (Cell M V)) : Type 0 where
+  pub kept : Kept base old new
+  pub used : Rows new base n (length (stops_of j)) k 0
+  pub tables : (τ : Task (Option V)) (H : ℕ → ℕ → Option V) → Tables meaning old n (stops_of j) τ H → Tables meaning new n (stops_of j) τ H
+  pub stands : (τ : Task (Option V)) (H : ℕ → ℕ → Option V) → Tables meaning old n (stops_of j) τ H → Partition (optional meaning) τ H [] (k * length (stops_of j)) (waiting_in new base)
+
+-- where the waiting subspaces stand behind the tables, all plans of the job over the street wait
+pub waits : {M V : Type 0} (meaning : MeasureMeaning V) (n n' : ℕ) (j j' : Job) (b k k' : ℕ) (old new : List (Cell M V)) → n' ≡ n → j' ≡ j → b ≡ behind_tables n (length (stops_of j)) → k' ≡ k → AllWait meaning n' j' b k' old new →
+    Waits meaning (stops_of j) n k old new
+waits meaning n n' j j' b k k' old new p q r s all = let h = moved Job (λ x i c y. AllWait meaning x i c y old new) n' n j' j b (behind_tables n (length (stops_of j))) k' k p q r s all in record {
+  used = h.used;
+  stands = λ street tabled. let τ = task_of meaning street (job_meaning (stops_of j)) in
+      standing meaning street old new (stops_of j) n k (behind_tables n (length (stops_of j))) refl h.kept tabled (h.tables τ tabled.minima tabled.tables) [] 0 refl h.used (λ r l. absurd (omega arith))
+      (h.stands τ tabled.minima tabled.tables);
+}
+
+-- r is the head that the search over the entries from cell `base` on finds
+pub record HeadFound {M V : Type 0} (meaning : MeasureMeaning V) (cells : List (Cell M V)) (base m k : ℕ) (r : Option ℕ) : Type 0 where
+  pub low : base ≤ 4864
+  pub some : IfSome r (λ w. (w < k) × ((entry_in cells (base + w)).score ≡ None → ⊥))
+  pub ready : (n rows : ℕ) → Rows cells base n m k rows → IfSome r (λ w. (w ≤ rows) × ((entry_in cells (base + w)).depth < m) × ((t : ℕ) → t < m → places_of (entry_in cells (base + w)).places t < n))
+  pub plan : HeadPlan meaning cells base m k r
+
+-- where the entries stand behind the tables, it has the first plan of the street that is not given
+pub looked : {M V : Type 0} (meaning : MeasureMeaning V) (laws : Laws meaning.nought meaning.joined meaning.before) (j : Job) (n k : ℕ) (cells : List (Cell M V)) → Roomy cells n (length (stops_of j)) k → (b m k' : ℕ) →
+    b ≡ behind_tables n (length (stops_of j)) → m ≡ length (stops_of j) → k' ≡ k → (r : Option ℕ) → HeadFound meaning cells b m k' r → Looked meaning (stops_of j) n k cells r
+looked meaning laws j n k cells roomy b m k' p q s r found-head =
+    let h = moved ℕ (λ _ x c y. HeadFound meaning cells c x y r) 0 0 m (length (stops_of j)) b (behind_tables n (length (stops_of j))) k' k refl q p s found-head in record {
+      some = h.some;
+      ready = λ rows row used. splittable cells n k rows (behind_tables n (length (stops_of j))) (stops_of j) roomy refl h.low row r (h.ready n rows used);
+      plan = λ street given s. let τ = task_of meaning street (job_meaning (stops_of j)) in
+          found meaning laws street j n k given cells (behind_tables n (length (stops_of j))) s r
+          (λ w. Chosen (optional meaning) (task_of meaning street (job_meaning (stops_of j))) (k * length (stops_of j)) (waiting_in cells (behind_tables n (length (stops_of j)))) w)
+          (h.plan.told τ s.tabled.minima n (length given) (stops_of j) given refl s.tabled.tables s.used s.led s.parted);
+    }
+
+-- the head of the search stands behind the tables, and can be given there
+pub givable_there : {M V : Type 0} (cells : List (Cell M V)) (n n' : ℕ) (j j' : Job) (b k k' rows w : ℕ) → n' ≡ n → j' ≡ j → b ≡ behind_tables n (length (stops_of j)) → k' ≡ k →
+    Givable cells n (stops_of j) (behind_tables n (length (stops_of j))) k rows w → Givable cells n' (stops_of j') b k' rows w
+givable_there cells n n' j j' b k k' rows w p q r s = moved Job (λ x i c y. Givable cells x (stops_of i) c y rows w) n n' j j' (behind_tables n (length (stops_of j))) b k k' (sym p) (sym q) (sym r) (sym s)
+
+-- once it is given, the other plans of the street wait on
+pub gave : {M V : Type 0} (meaning : MeasureMeaning V) (laws : Laws meaning.nought meaning.joined meaning.before) (n n' : ℕ) (j j' : Job) (b k k' rows w : ℕ) (old new : List (Cell M V)) →
+    n' ≡ n → j' ≡ j → b ≡ behind_tables n (length (stops_of j)) → k' ≡ k → Givable old n (stops_of j) (behind_tables n (length (stops_of j))) k rows w →
+    Advanced meaning (stops_of j') n' b k' rows w old new → Gave meaning (stops_of j) n k rows w old new
+gave meaning laws n n' j j' b k k' rows w old new p q r s givable advanced =
+    let h = moved Job (λ x i c y. Advanced meaning (stops_of i) x c y rows w old new) n' n j' j b (behind_tables n (length (stops_of j))) k' k p q r s advanced in
+    let wl : w < k * length (stops_of j) = head_in k (length (stops_of j)) w (some_stop j) (let l = givable.split.row in let e = givable.head in omega arith) in record {
+      used = h.used;
+      stands = λ street given v e s scored first. let τ = task_of meaning street (job_meaning (stops_of j)) in
+          let used = subst (λ (x : ℕ). Rows old (behind_tables n (length (stops_of j))) n (length (stops_of j)) k x) (sym e) s.used in
+          let led = subst (λ (x : ℕ). AllLed meaning old (behind_tables n (length (stops_of j))) (length (stops_of j)) k x) (sym e) s.led in
+          standing meaning street old new (stops_of j) n k (behind_tables n (length (stops_of j))) refl h.kept s.tabled (h.tables τ s.tabled.minima s.tabled.tables)
+          (places_of (entry_in old (behind_tables n (length (stops_of j)) + w)).places ∷ given) (rows + 1) (add-one rows ∙ ap suc e) (h.used used) (h.led led)
+          (h.stands τ s.tabled.minima given s.tabled.tables used s.parted (chosen_plan meaning laws street j n k w given old v s wl scored first));
+    }

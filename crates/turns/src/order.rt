@@ -3,8 +3,10 @@ ghost use Rattle.jobs.specs.Jobs.{stops_of};
 ghost use Rattle.turns.specs.Standing.{behind_tables, needed};
 
 use jobs::job::Job;
+use waiting::queue::Waiting;
 
-// What is asked for: the plans of a job over n places, of which k are wanted.
+// What is asked for: the plans of a job over n places, of which k are wanted. That there are cells enough stands in the calls:
+// a struct over the cells would hold them as `&mut`, which `look` must not ask for.
 #[derive(Clone, Copy)]
 pub struct Order<'a> {
     pub n: usize,
@@ -21,6 +23,18 @@ impl<'a> Order<'a> {
         ensures { (result ≡ behind_tables self.now.n (length (stops_of self.now.job.now))) × (result ≤ 4864) }
     {
         self.n * self.n + self.job.len() * self.n
+    }
+
+    // What waits of the plans, in the cells behind the tables.
+    pub fn waiting(&self) -> Waiting<'a>
+        ensures { let o = self.now in (result.n ≡ o.n) × (result.job.now ≡ o.job.now) × (result.base ≡ behind_tables o.n (length (stops_of o.job.now))) × (result.k ≡ o.k) }
+    {
+        Waiting {
+            n: self.n,
+            job: self.job,
+            base: self.base(),
+            k: self.k,
+        }
     }
 
     // How many cells are needed.

@@ -3,14 +3,13 @@ ghost use Rattle.streets.specs.Meaning.{StreetMeaning, Sound};
 ghost use Rattle.jobs.specs.Jobs.{stops_of};
 ghost use Rattle.rides.specs.Cells.{Filled};
 ghost use Rattle.minima.specs.Boards.{SameBoard};
-ghost use Rattle.turns.specs.Standing.{behind_tables, needed, Tabled, Waits, Begun};
+ghost use Rattle.turns.specs.Standing.{needed, Tabled, Waits, Begun};
 
 use crate::order::Order;
 use cells::cell::Cell;
 use fitting::owns::fill_own;
 use measures::Measure;
 use minima::board::BoardMut;
-use waiting::queue::Waiting;
 
 // Fills in the job's own values and subtree minima over the street that the cells hold.
 fn fill_tables<M: Measure>(board: &mut BoardMut<'_, M, M::Value>)
@@ -22,38 +21,12 @@ fn fill_tables<M: Measure>(board: &mut BoardMut<'_, M, M::Value>)
 }
 
 impl<'a> Order<'a> {
-    // Lets all plans wait in the cells from `base` on, behind the tables. It is apart, as `begin_behind` is: in one
-    // function with the base worked out it was tried, and its goals are then only proved by answers written by hand.
-    fn wait_behind<M: Measure>(&self, cells: &mut [Cell<M, M::Value>], base: usize)
-        requires { let o = self.now in let m = length (stops_of o.job.now) in (needed o.n m o.k ≤ length cells.old) × (base ≡ behind_tables o.n m) × (base ≤ 4864) }
-        ensures { let o = self.now in Waits M.Measure.meaning (stops_of o.job.now) o.n o.k cells.old cells.new }
-    {
-        let waiting = Waiting {
-            n: self.n,
-            job: self.job,
-            base,
-            k: self.k,
-        };
-        waiting.let_all_wait::<M>(cells);
-    }
-
     // Lets all plans wait again, over the tables that the cells hold: nothing is given yet.
     pub fn begin_again<M: Measure>(&self, cells: &mut [Cell<M, M::Value>])
         requires { let o = self.now in needed o.n (length (stops_of o.job.now)) o.k ≤ length cells.old }
         ensures { let o = self.now in Waits M.Measure.meaning (stops_of o.job.now) o.n o.k cells.old cells.new }
     {
-        let base = self.base();
-        self.wait_behind::<M>(cells, base);
-    }
-
-    // Fills in the job's tables, and lets all plans wait in the cells from `base` on, behind them.
-    fn begin_behind<M: Measure>(&self, cells: &mut [Cell<M, M::Value>], base: usize)
-        requires { let o = self.now in let m = length (stops_of o.job.now) in (needed o.n m o.k ≤ length cells.old) × (base ≡ behind_tables o.n m) × (base ≤ 4864) }
-        ensures { let o = self.now in Begun M.Measure.meaning (stops_of o.job.now) o.n o.k cells.old cells.new }
-    {
-        let mut board = BoardMut::new(cells, self.n, self.job);
-        fill_tables::<M>(&mut board);
-        self.wait_behind::<M>(cells, base);
+        self.waiting().let_all_wait::<M>(cells);
     }
 
     // Works out the job's tables over the street that the cells hold, and lets all plans wait.
@@ -61,7 +34,8 @@ impl<'a> Order<'a> {
         requires { let o = self.now in needed o.n (length (stops_of o.job.now)) o.k ≤ length cells.old }
         ensures { let o = self.now in Begun M.Measure.meaning (stops_of o.job.now) o.n o.k cells.old cells.new }
     {
-        let start = self.base();
-        self.begin_behind::<M>(cells, start);
+        let mut board = BoardMut::new(cells, self.n, self.job);
+        fill_tables::<M>(&mut board);
+        self.begin_again::<M>(cells);
     }
 }

@@ -2,3 +2,4 @@ pub mod Keeping
 pub mod Leasts
 pub mod Stepping
 pub mod Starting
+pub mod Splitting

@@ -29,6 +29,14 @@ row_ends m k row s l = subst (λ (x : ℕ). row_start x k row + (x - 1) ≤ k * 
     ends : (d k row : ℕ) → row < k → row_start (d + 1) k row + (d + 1 - 1) ≤ k * (d + 1)
     ends d k row l = subst (λ (x : ℕ). k + row * x + x ≤ k * (d + 1)) (let e : d ≡ d + 1 - 1 = omega arith in e) (let a = mul-le (row + 1) d k d (omega arith) (omega arith) in omega arith)
 
+-- where the entries of a row begin, by what stands for the numbers
+pub same_start : (b base m' m k' k row at : ℕ) → at ≡ b + row_start m' k' row → b ≡ base → m' ≡ m → k' ≡ k → at ≡ base + row_start m k row
+same_start b base m' m k' k row at e p q r = cc
+
+-- how many entries there are at the most
+pub room_most : (k m : ℕ) → k ≤ 256 → m ≤ 12 → k * m ≤ 3072
+room_most k m small few = mul-le k m 256 12 small few
+
 -- an entry of a row in use stands in the cells
 pub within : (base w m k rows len : ℕ) → 1 ≤ m → m ≤ 12 → k ≤ 256 → rows < k → base + k * m ≤ len → w < row_start m k rows → base ≤ 4864 → (base + w < len) × (base + w ≤ 7936)
 within base w m k rows len some few small row room l low = let e = row_ends m k rows some row in let b = mul-le k m 256 12 small few in (omega arith, omega arith)

@@ -1,7 +1,7 @@
 -- The waiting subspaces in cells. For m stops and k plans that are wanted, k x m cells stand from cell `base` on: first
 -- the head of each of k rows, then the other entries of the rows, m - 1 in each. At the start all plans wait in the head
 -- of row 0; with every plan that is given one more row comes into use, for the parts of its subspace behind its depth.
-use Rattle.std.specs.Prelude.{◌≡◌, ℕ, ◌+◌, ◌-◌, ◌*◌, ◌<◌, ◌≤◌, ◌⊎◌, List, ◌∷◌, length, None, Option, ◌==◌, ◌≢◌}
+use Rattle.std.specs.Prelude.{◌≡◌, ℕ, ◌+◌, ◌-◌, ◌*◌, ◌<◌, ◌≤◌, true, ◌⊎◌, List, ◌∷◌, length, IfSome, None, Option, MatchOption, ◌==◌, ◌≢◌}
 use Rattle.measures.specs.Meaning.{MeasureMeaning}
 use Rattle.measures.specs.Scales.{optional}
 use Rattle.sets.specs.Sets.{has_bit}
@@ -9,10 +9,10 @@ use Rattle.sets.specs.Placements.{Same}
 use Rattle.jobs.specs.declared.stops.Stop.{Stop}
 use Rattle.trees.specs.Tasks.{Task}
 use Rattle.trees.specs.Subspaces.{Subspace}
-use Rattle.trees.specs.Rounds.{Partition, Chosen}
+use Rattle.trees.specs.Rounds.{Partition, Chosen, FirstLeft, NoneLeft}
 use Rattle.cells.specs.declared.cell.Cell.{Cell}
 use Rattle.cells.specs.declared.cell.Entry.{Entry}
-use Rattle.cells.specs.Cells.{places_of, space_of}
+use Rattle.cells.specs.Cells.{places_of, space_of, entry_before}
 use Rattle.cells.specs.declared.places.Places.{Places}
 use Rattle.tables.specs.Tables.{entry_in, Kept}
 use Rattle.minima.specs.Tables.{Ready, Tables}
@@ -72,3 +72,17 @@ pub record SplitOff {M V : Type 0} (meaning : MeasureMeaning V) (stops : List St
   pub stands : (τ : Task (Option V)) (H : ℕ → ℕ → Option V) (given : List (ℕ → ℕ)) → Tables meaning old n stops τ H → Queue old base n (length stops) k rows →
       Partition (optional meaning) τ H given (k * length stops) (waiting_in old base) → Chosen (optional meaning) τ (k * length stops) (waiting_in old base) w →
       Partition (optional meaning) τ H (places_of (entry_in old (base + w)).places ∷ given) (k * length stops) (waiting_in new base)
+
+-- of `count` entries from cell `from` on, r is the one whose plan comes first, counted from the first of them; r is none
+-- where none of them has a plan
+pub record FirstWaiting {M V : Type 0} (meaning : MeasureMeaning V) (cells : List (Cell M V)) (from count : ℕ) (r : Option ℕ) : Type 0 where
+  pub none : (r ≡ None) → (v : ℕ) → v < count → (entry_in cells (from + v)).score ≡ None
+  pub some : IfSome r (λ w. (w < count) × ((entry_in cells (from + w)).score ≢ None) × ((v : ℕ) → v < count → entry_before meaning.before (entry_in cells (from + w)) (entry_in cells (from + v)) ≡ true))
+
+-- of the k x m entries from cell `base` on, r is the one in which the first plan waits that is not given, or none where no
+-- plan is left
+pub record NextPlan {M V : Type 0} (meaning : MeasureMeaning V) (cells : List (Cell M V)) (base m k : ℕ) (r : Option ℕ) : Type 0 where
+  pub told : (τ : Task (Option V)) (H : ℕ → ℕ → Option V) (n : ℕ) (stops : List Stop) (given : List (ℕ → ℕ)) → length stops ≡ m → Tables meaning cells n stops τ H →
+      Partition (optional meaning) τ H given (k * m) (waiting_in cells base) →
+      MatchOption r (NoneLeft (optional meaning) τ given) (λ w. Chosen (optional meaning) τ (k * m) (waiting_in cells base) w
+      × FirstLeft (optional meaning) τ given (places_of (entry_in cells (base + w)).places) (entry_in cells (base + w)).score)

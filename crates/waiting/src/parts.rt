@@ -20,28 +20,29 @@ use search::firsts::first_plan;
 use sets::PlaceSet;
 use tables::access::set_entry;
 
-// The part of a subspace with the plans that leave its first plan at stop t, t being behind its depth.
-fn part_at<M: Measure>(board: &Board<'_, M, M::Value>, from: &Places, t: usize) -> Entry<M::Value>
-    requires { let b = board.now in let m = length (stops_of b.job.now) in (t < m) × ((s : ℕ) → s < m → places_of from.now s < b.n) }
-    ensures part { Part from.now t result }
+// The part of a subspace with the plans that leave these places, which are its first plan's, at stop t: of the places that are
+// excluded there, and the one that the first plan has there, the part has none. At the subspace's own depth the entry's
+// excluded places are, and behind it no place is.
+#[tactic(auto, using(crate::proofs::Keeping::one_bit, jobs::proofs::Ties::few_stops))]
+pub fn part_at<M: Measure>(
+    board: &Board<'_, M, M::Value>,
+    places: &Places,
+    t: usize,
+    excluded: PlaceSet,
+) -> Entry<M::Value>
+    requires { let b = board.now in let m = length (stops_of b.job.now) in (t < m) × ((s : ℕ) → s < m → places_of places.now s < b.n) }
+    ensures kept { (result.depth ≡ t) × Same t (places_of places.now) (places_of result.places) }
+    ensures excluded { (q : ℕ) → has_bit result.excluded.bits q ≡ (has_bit excluded.bits q || q == places_of places.now t) }
     ensures safe { Safe board.now.n (length (stops_of board.now.job.now)) result }
     ensures first { let b = board.now in (τ : Task (Option M.Value)) (H : ℕ → ℕ → Option M.Value) → Tables M.Measure.meaning b.cells.now b.n (stops_of b.job.now) τ H → First (optional M.Measure.meaning) τ H (space_of result) }
 {
-    let excluded = PlaceSet::empty().with(from.at(t));
+    let without = excluded.with(places.at(t));
     let prefix = Prefix {
         board: &*board,
-        places: &*from,
+        places: &*places,
         i: t,
     };
-    first_plan::<M>(&prefix, excluded)
-}
-
-// How many stops there are behind the depth.
-fn stops_behind(m: usize, depth: usize) -> usize
-    requires { depth < m }
-    ensures { result ≡ m - (depth + 1) }
-{
-    m - depth - 1
+    first_plan::<M>(&prefix, without)
 }
 
 // The parts at the stops behind the depth, one after the other from cell `at` on; no other cell changes.
@@ -60,38 +61,9 @@ pub fn split_rest<M: Measure>(
     ensures firsts { (τ : Task (Option M.Value)) (H : ℕ → ℕ → Option M.Value) → Tables M.Measure.meaning cells.old n (stops_of job.now) τ H →
         (u : ℕ) → u < length (stops_of job.now) - (depth + 1) → First (optional M.Measure.meaning) τ H (space_of (entry_in cells.new (at + u))) }
 {
-    let m = job.len();
-    for u in 0..stops_behind(m, depth) {
+    for (u, t) in (depth + 1..job.len()).enumerate() {
         let board = Board { cells, n, job };
-        let part = part_at::<M>(&board, from, depth + 1 + u);
+        let part = part_at::<M>(&board, from, t, PlaceSet::empty());
         set_entry(cells, at + u, part);
     }
-}
-
-// The excluded places of a subspace at its depth, and the place that its first plan has there.
-fn excluded_here<V: Copy>(old: &Entry<V>) -> PlaceSet
-    requires { old.now.depth < 12 }
-    ensures { (q : ℕ) → has_bit result.bits q ≡ (has_bit old.now.excluded.bits q || (q == places_of old.now.places old.now.depth && nat_lt (places_of old.now.places old.now.depth) 64)) }
-{
-    old.excluded.with(old.places.at(old.depth))
-}
-
-// The part of a subspace with the plans that leave its first plan at its own depth.
-pub fn part_here<M: Measure>(
-    board: &Board<'_, M, M::Value>,
-    old: &Entry<M::Value>,
-) -> Entry<M::Value>
-    requires { let b = board.now in let m = length (stops_of b.job.now) in (old.now.depth < m) × ((s : ℕ) → s < m → places_of old.now.places s < b.n) }
-    ensures kept { (result.depth ≡ old.now.depth) × Same old.now.depth (places_of old.now.places) (places_of result.places) }
-    ensures excluded { (q : ℕ) → has_bit result.excluded.bits q ≡ (has_bit old.now.excluded.bits q || q == places_of old.now.places old.now.depth) }
-    ensures safe { Safe board.now.n (length (stops_of board.now.job.now)) result }
-    ensures first { let b = board.now in (τ : Task (Option M.Value)) (H : ℕ → ℕ → Option M.Value) → Tables M.Measure.meaning b.cells.now b.n (stops_of b.job.now) τ H → First (optional M.Measure.meaning) τ H (space_of result) }
-{
-    let excluded = excluded_here(old);
-    let prefix = Prefix {
-        board: &*board,
-        places: &old.places,
-        i: old.depth,
-    };
-    first_plan::<M>(&prefix, excluded)
 }

@@ -2,7 +2,7 @@ ghost use Rattle.std.specs.Prelude.{◌≡◌, ◌+◌, ◌-◌, ◌*◌, ◌<�
 ghost use Rattle.jobs.specs.Jobs.{stops_of};
 ghost use Rattle.waiting.specs.Queues.{row_start, Splittable, SplitOff};
 
-use crate::parts::{part_here, split_rest};
+use crate::parts::{part_at, split_rest};
 use cells::cell::Cell;
 use jobs::job::Job;
 use measures::Measure;
@@ -32,14 +32,6 @@ impl Entries {
     }
 }
 
-// How many entries k rows have for m stops.
-pub fn room_for(k: usize, m: usize) -> usize
-    requires { (m ≤ 12) × (k ≤ 256) }
-    ensures { (result ≡ k * m) × (result ≤ 3072) }
-{
-    k * m
-}
-
 // Where the plans of a job over n places wait, of which k are wanted: in the cells from `base` on, behind the tables.
 #[derive(Clone, Copy)]
 pub struct Waiting<'a> {
@@ -54,16 +46,21 @@ pub struct Waiting<'a> {
 }
 
 impl<'a> Waiting<'a> {
-    // The plan of entry w is given, for m stops: the part of its subspace at its own depth takes its place, and the others
-    // go into row `rows`. It is apart from `split_off` so that a wrong number of stops is refused at its call.
-    fn split_head<M: Measure>(
-        &self,
-        cells: &mut [Cell<M, M::Value>],
-        m: usize,
-        rows: usize,
-        w: usize,
-    )
-        requires { let o = self.now in (m ≡ length (stops_of o.job.now)) × Splittable cells.old o.n (stops_of o.job.now) o.base o.k rows w }
+    // Where the waiting subspaces stand.
+    pub fn entries(&self) -> Entries
+        ensures { let o = self.now in (result.base ≡ o.base) × (result.m ≡ length (stops_of o.job.now)) × (result.k ≡ o.k) }
+    {
+        Entries {
+            base: self.base,
+            m: self.job.len(),
+            k: self.k,
+        }
+    }
+
+    // The plan of entry w is given: the part of its subspace at its own depth takes its place, and the others go into row
+    // `rows`.
+    pub fn split_off<M: Measure>(&self, cells: &mut [Cell<M, M::Value>], rows: usize, w: usize)
+        requires { let o = self.now in Splittable cells.old o.n (stops_of o.job.now) o.base o.k rows w }
         ensures { let o = self.now in SplitOff M.Measure.meaning (stops_of o.job.now) o.n o.base o.k rows w cells.old cells.new }
     {
         let old = cell_at(cells, self.base + w).entry;
@@ -72,23 +69,9 @@ impl<'a> Waiting<'a> {
             n: self.n,
             job: self.job,
         };
-        let here = part_here::<M>(&board, &old);
+        let here = part_at::<M>(&board, &old.places, old.depth, old.excluded);
         set_entry(cells, self.base + w, here);
-        let entries = Entries {
-            base: self.base,
-            m,
-            k: self.k,
-        };
-        let start = entries.behind(rows);
+        let start = self.entries().behind(rows);
         split_rest::<M>(cells, self.n, self.job, start, &old.places, old.depth);
-    }
-
-    // The plan of entry w is given: what is left of its subspace is split, and waits on.
-    pub fn split_off<M: Measure>(&self, cells: &mut [Cell<M, M::Value>], rows: usize, w: usize)
-        requires { let o = self.now in Splittable cells.old o.n (stops_of o.job.now) o.base o.k rows w }
-        ensures { let o = self.now in SplitOff M.Measure.meaning (stops_of o.job.now) o.n o.base o.k rows w cells.old cells.new }
-    {
-        let m = self.job.len();
-        self.split_head::<M>(cells, m, rows, w);
     }
 }

@@ -1,19 +1,32 @@
-use Rattle.std.proofs.Common.{arith}
+use Rattle.std.proofs.Common.{◌≡◌, ℕ, ◌+◌, ◌<◌, length, sym, subst, arith}
+use Rattle.jobs.specs.Jobs.{stops_of}
+use Rattle.cells.specs.Cells.{places_of}
+use Rattle.tables.specs.Tables.{entry_in}
+use Rattle.leaders.specs.Leaders.{Rows}
 use Rattle.search_tests.proofs.enumerate.Goals as goal
+
+-- a fact of three numbers, in place of equal ones
+moved : (P : ℕ → ℕ → ℕ → Type 0) (b b' m m' k k' : ℕ) → b ≡ b' → m ≡ m' → k ≡ k' → P b m k → P b' m' k'
+moved P b b' m m' k k' p q r h = subst (λ x. P x m' k') p (subst (λ x. P b x k') q (subst (λ x. P b m x) r h))
 
 -- the search shows that the entry it answers can be given
 pub advance-requires : goal.advance-requires
-advance-requires g c = let three = c.requires.1 in let long = c.requires.0 in let found = c.in-Some.ensures.ready 3 c.loop-given.given c.loop-given.invariant in let head = found.0 in record {
-  head = found.0;
-  split = record {
-    ready = record { few = omega arith; room = omega arith };
-    behind = omega arith;
-    low = omega arith;
-    most = omega arith;
-    room = omega arith;
-    row = omega arith;
-    used = omega arith;
-    deep = found.1;
-    placed = found.2;
-  };
-}
+advance-requires g c = let three = c.requires.0 in let e = c.entries-entries.ensures in
+    let found = c.in-Some.ensures.ready 3 c.loop-given.given
+    (moved (λ b m k. Rows c.loop-given.cells b 3 m k c.loop-given.given) 18 c.entries-entries.result.base (length (stops_of c.args.job.now)) c.entries-entries.result.m 28 c.entries-entries.result.k (sym e.0) (sym e.1) (sym e.2) c.loop-given.invariant) in
+    let there = moved (λ b m k. ((entry_in c.loop-given.cells (b + c.in-Some.w)).depth < m) × ((t : ℕ) → t < m → places_of (entry_in c.loop-given.cells (b + c.in-Some.w)).places t < 3))
+    c.entries-entries.result.base 18 c.entries-entries.result.m (length (stops_of c.args.job.now)) c.entries-entries.result.k 28 e.0 e.1 e.2 (found.1, found.2) in
+    let head = found.0 in record {
+      head = found.0;
+      split = record {
+        ready = record { few = omega arith; room = omega arith };
+        behind = omega arith;
+        low = omega arith;
+        most = omega arith;
+        room = omega arith;
+        row = omega arith;
+        used = omega arith;
+        deep = there.0;
+        placed = there.1;
+      };
+    }

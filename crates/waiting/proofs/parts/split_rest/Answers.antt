@@ -1,36 +1,34 @@
-use Rattle.std.proofs.Common.{◌≡◌, ℕ, ◌+◌, ◌<◌, length, sym, ◌∙◌, subst, arith}
+use Rattle.std.proofs.Common.{◌≡◌, ℕ, ◌+◌, sym, subst, arith, rules}
+use Rattle.std.specs.Iterator.Adapters.{enumerate_count}
 use Rattle.jobs.specs.Jobs.{stops_of}
-use Rattle.measures.specs.Scales.{optional}
-use Rattle.trees.specs.Subspaces.{First}
-use Rattle.cells.specs.declared.cell.Entry.{Entry}
-use Rattle.cells.specs.Cells.{space_of}
-use Rattle.tables.specs.Tables.{entry_in}
-use Rattle.waiting.specs.Queues.{Part, Safe}
-use Rattle.minima.proofs.Rows.{more}
-use Rattle.waiting.proofs.Keeping.{tables_kept, same_entry}
+use Rattle.tables.specs.Tables.{EntryWritten}
+use Rattle.waiting.proofs.Splitting.{SplitTo, PartFor, split_more}
 use Rattle.waiting.proofs.parts.split_rest.Goals as goal
 
 pub loop-u-preserved : goal.loop-u-preserved
-loop-u-preserved g c = let m = g.M.Measure.meaning in let V = g.row.M-Value.Denot in
-    let there = c.set_entry.ensures.there in
-    let others = c.set_entry.ensures.others in
-    let old : (v : ℕ) → v < c.loop-u.u → entry_in c.set_entry.new.cells (c.args.at + v) ≡ entry_in c.loop-u.cells (c.args.at + v) = λ v l. same_entry c.loop-u.cells c.set_entry.new.cells (c.args.at + v) (others (c.args.at + v) (λ d. omega arith)) in (
-      (λ i l. others i (λ d. omega arith) ∙ c.loop-u.invariant.0 i l),
-      (λ i l. others i (λ d. omega arith) ∙ c.loop-u.invariant.1 i (omega arith)),
-      more (λ v. Part c.args.from.now (c.args.depth + 1 + v) (entry_in c.set_entry.new.cells (c.args.at + v)) × Safe c.args.n (length (stops_of c.args.job.now)) (entry_in c.set_entry.new.cells (c.args.at + v))) c.loop-u.u
-          (λ v l. subst (λ (x : Entry V). Part c.args.from.now (c.args.depth + 1 + v) x × Safe c.args.n (length (stops_of c.args.job.now)) x) (sym (old v l)) (c.loop-u.invariant.2 v l))
-          (subst (λ (x : Entry V). Part c.args.from.now (c.args.depth + 1 + c.loop-u.u) x × Safe c.args.n (length (stops_of c.args.job.now)) x) (sym there) (c.part_at-part.ensures.part, c.part_at-part.ensures.safe)),
-      λ τ H tables. more (λ v. First (optional m) τ H (space_of (entry_in c.set_entry.new.cells (c.args.at + v)))) c.loop-u.u
-          (λ v l. subst (λ (x : Entry V). First (optional m) τ H (space_of x)) (sym (old v l)) (c.loop-u.invariant.3 τ H tables v l))
-          (subst (λ (x : Entry V). First (optional m) τ H (space_of x)) (sym there)
-          (c.part_at-part.ensures.first τ H
-          (tables_kept c.args.cells.now c.loop-u.cells c.args.n c.args.at (stops_of c.args.job.now) c.requires.3 c.loop-u.invariant.0 m τ H tables))),
+loop-u-preserved g c = let step = c.in-Some.ensures.steps in let m = g.M.Measure.meaning in
+    let stop : c.in-Some.t ≡ c.args.depth + 1 + enumerate_count c.loop-u.u-iterator = omega arith in
+    let part : PartFor m c.loop-u.cells c.args.n (stops_of c.args.job.now) c.args.from.now (c.args.depth + 1 + enumerate_count c.loop-u.u-iterator) c.part_at-part.result =
+    subst (λ (t : ℕ). PartFor m c.loop-u.cells c.args.n (stops_of c.args.job.now) c.args.from.now t c.part_at-part.result) stop record {
+      part = record { depth = c.part_at-part.ensures.kept.0; same = c.part_at-part.ensures.kept.1; excluded = λ r. grind (arith, c.part_at-part.ensures.excluded r, c.empty.ensures.none r) };
+      safe = c.part_at-part.ensures.safe;
+      first = c.part_at-part.ensures.first;
+    } in
+    let put : EntryWritten (c.args.at + enumerate_count c.loop-u.u-iterator) c.part_at-part.result c.loop-u.cells c.set_entry.new.cells =
+    subst (λ (u : ℕ). EntryWritten (c.args.at + u) c.part_at-part.result c.loop-u.cells c.set_entry.new.cells) step.1 c.set_entry.ensures in (
+      (tt, tt, search rules),
+      tt,
+      omega arith,
+      omega arith,
+      omega arith,
+      subst (λ (x : ℕ). SplitTo m c.args.cells.now c.args.n (stops_of c.args.job.now) c.args.from.now c.args.depth c.args.at x c.set_entry.new.cells) (sym step.2)
+          (split_more m c.args.cells.now c.loop-u.cells c.set_entry.new.cells c.args.n (stops_of c.args.job.now) c.args.from.now c.args.depth c.args.at (enumerate_count c.loop-u.u-iterator) c.part_at-part.result c.requires.3 c.loop-u.invariant.5 part put),
     )
 
 pub returns : goal.returns
-returns g c = let told = c.len-m.ensures.told in let all = c.stops_behind-u-end.ensures in record {
-  before = c.loop-u.invariant.0;
-  behind = λ i l. c.loop-u.invariant.1 i (omega arith);
-  parts = λ u l. c.loop-u.invariant.2 u (omega arith);
-  firsts = λ τ H tables u l. c.loop-u.invariant.3 τ H tables u (omega arith);
+returns g c = let end = c.in-None.ensures.steps in let k = c.loop-u.invariant.5 in record {
+  before = k.before;
+  behind = λ i l. k.behind i (omega (arith, end));
+  parts = λ u l. k.parts u (omega (arith, end));
+  firsts = λ τ H tables u l. k.firsts τ H tables u (omega (arith, end));
 }

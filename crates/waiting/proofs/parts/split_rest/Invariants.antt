@@ -1,18 +1,12 @@
-use Rattle.std.proofs.Common.{◌≡◌, ℕ, ◌+◌, ◌<◌, ◌≤◌, length, get_or, Option}
+use Rattle.std.proofs.Common.{◌≡◌, ◌+◌, ◌≤◌, length}
+use Rattle.std.specs.Iterator.Adapters.{enumerate_source, enumerate_count}
 use Rattle.jobs.specs.Jobs.{stops_of}
-use Rattle.measures.specs.Scales.{optional}
-use Rattle.trees.specs.Tasks.{Task}
-use Rattle.trees.specs.Subspaces.{First}
-use Rattle.cells.specs.Cells.{space_of}
-use Rattle.tables.specs.Tables.{blank, entry_in, Kept}
-use Rattle.minima.specs.Tables.{Tables}
-use Rattle.waiting.specs.Queues.{Part, Safe}
+use Rattle.waiting.proofs.Splitting.{SplitTo}
 use Rattle.waiting.proofs.parts.split_rest.Given as goal
 
 abbrev pub invariant-loop-u : goal.invariant-loop-u
-invariant-loop-u g l = let m = g.M.Measure.meaning in let V = g.row.M-Value.Denot in
-    Kept l.at l.initial.cells l.cells
-    × ((i : ℕ) → l.at + l.u ≤ i → get_or l.cells i blank ≡ get_or l.initial.cells i blank)
-    × ((u : ℕ) → u < l.u → Part l.from (l.depth + 1 + u) (entry_in l.cells (l.at + u)) × Safe l.n (length (stops_of l.job)) (entry_in l.cells (l.at + u)))
-    × ((τ : Task (Option V)) (H : ℕ → ℕ → Option V) → Tables m l.initial.cells l.n (stops_of l.job) τ H →
-    (u : ℕ) → u < l.u → First (optional m) τ H (space_of (entry_in l.cells (l.at + u))))
+invariant-loop-u g l = (goal.iterator-loop-u g).can_next l.u-iterator × (goal.iterator-loop-u g).is_finite l.u-iterator
+    × ((enumerate_source l.u-iterator).start ≡ l.depth + 1 + enumerate_count l.u-iterator)
+    × ((enumerate_source l.u-iterator).end ≡ length (stops_of l.job))
+    × (l.depth + 1 + enumerate_count l.u-iterator ≤ length (stops_of l.job))
+    × SplitTo g.M.Measure.meaning l.initial.cells l.n (stops_of l.job) l.from l.depth l.at (enumerate_count l.u-iterator) l.cells
