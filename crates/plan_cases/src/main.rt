@@ -188,6 +188,7 @@ fn begin<'a, M: Measure>(
     Ok(order)
 }
 
+#[tactic(auto, using(leaders::proofs::Foremost::heads_le, jobs::proofs::Ties::some_stop))]
 // Prints the plan of entry w, `rows` plans being given before it.
 fn print_plan<M: Measure>(
     rt: &HostRuntime,

@@ -1,6 +1,7 @@
 -- One place more between: the best walk by places up to k, from the best walks by places below k.
 use Rattle.std.proofs.Common.{◌≡◌, ℕ, ◌+◌, ◌<◌, Bool, true, false, cond, ◌⊎◌, Some, None, Option, sym, refl, ap, ◌∙◌, subst, inl, inr, ⊎_elim, arith}
 use Rattle.measures.specs.Optional.{both}
+use Rattle.std.proofs.lemmas.Option.{none-some}
 use Rattle.std.proofs.lemmas.Bool.{both_ways, cases_lt}
 use Rattle.measures.specs.Meaning.{MeasureMeaning}
 use Rattle.measures.specs.Laws.{Laws}
@@ -8,9 +9,6 @@ use Rattle.streets.specs.Meaning.{StreetMeaning}
 use Rattle.plans.specs.Walks.{direct}
 use Rattle.plans.specs.Between.{Via, leg, onward, Reaches, Best}
 use Rattle.plans.specs.Computed.{lesser}
-
-pub none_some : {V : Type 0} {x : V} → None ≡ Some x → ⊥
-none_some e = let z : ◌≡◌ {A = ℕ} 0 1 = cc in omega arith
 
 -- a walk by places below k is one by places up to k
 pub widen : {V : Type 0} {m : MeasureMeaning V} {s : StreetMeaning} {k a b : ℕ} {v : V} → Via m s k a b v → Via m s (k + 1) a b v
@@ -67,8 +65,8 @@ module _ {V : Type 0} (m : MeasureMeaning V) (laws : Laws m.nought m.joined m.be
 
     both_walk : {k a c b : ℕ} (p q : Option V) (x : V) → c < k → ((y : V) → p ≡ Some y → Via m s k a c y) → ((y : V) → q ≡ Some y → Via m s k c b y) → both m.joined p q ≡ Some x → Via m s k a b x
     both_walk {k} {a} {c} {b} (Some y) (Some z) x l f g e = let t : m.joined y z ≡ x = cc in subst (λ (u : V). Via m s k a b u) t (append l (f y refl) (g z refl))
-    both_walk (Some y) None x l f g e = absurd (none_some e)
-    both_walk None q x l f g e = absurd (none_some e)
+    both_walk (Some y) None x l f g e = absurd (none-some _ e)
+    both_walk None q x l f g e = absurd (none-some _ e)
 
     -- two walks that meet at k, with the places between below k, whose join is at or before v
     record Parted (k a b : ℕ) (v : V) : Type 0 where

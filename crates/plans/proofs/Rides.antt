@@ -8,13 +8,14 @@ use Rattle.plans.specs.Walks.{leg_value, leg_valued, Walk, last, on, walk_value,
 use Rattle.plans.specs.Between.{Via, leg, onward, Best}
 use Rattle.plans.specs.Computed.{ride_over, ride_from}
 use Rattle.plans.specs.Laws.{RideLaws}
-use Rattle.plans.proofs.Closure.{none_some, widen, step_walk, step_below, best_start}
+use Rattle.std.proofs.lemmas.Option.{none-some}
+use Rattle.plans.proofs.Closure.{widen, step_walk, step_below, best_start}
 
 module _ {V : Type 0} (m : MeasureMeaning V) (laws : Laws m.nought m.joined m.before) where
   -- the leg whose value a direct link has
   leg_of_lem : (o : Option Leg) (v : V) → leg_valued m o ≡ Some v → (l : Leg) × (o ≡ Some l) × (leg_value m l ≡ v)
   leg_of_lem (Some l) v e = let h : leg_value m l ≡ v = cc in (l, refl, h)
-  leg_of_lem None v e = absurd (none_some e)
+  leg_of_lem None v e = absurd (none-some _ e)
 
   via_walk : {s : StreetMeaning} {k a b : ℕ} {v : V} → Via m s k a b v → (w : Walk s a b) × (walk_value m w ≡ v)
   via_walk {s} {a = a} {b = b} {v = v} (leg e) = let p = leg_of_lem (s.leg a b) v e in (last p.0 p.1, p.2)

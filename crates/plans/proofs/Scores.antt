@@ -10,7 +10,7 @@ use Rattle.plans.specs.Job.{JobMeaning, Tree}
 use Rattle.plans.specs.Plans.{fits, LinkValue, StopLink, Plan, links_joined, Score}
 use Rattle.plans.specs.Computed.{ride_from, link_from, stop_value, score_from}
 use Rattle.plans.specs.Laws.{RideLaws, ScoreLaws}
-use Rattle.plans.proofs.Closure.{none_some}
+use Rattle.std.proofs.lemmas.Option.{none-some}
 use Rattle.plans.proofs.Rides.{ride_laws_lem}
 use Rattle.sets.specs.Placements.{Same}
 use Rattle.measures.specs.Scales.{total, optional}
@@ -18,12 +18,12 @@ use Rattle.measures.specs.Scales.{total, optional}
 -- a value that is there only under a test
 if_some : {V : Type 0} (t : Bool) (o : Option V) (x : V) → cond t o None ≡ Some x → (t ≡ true) × (o ≡ Some x)
 if_some true o x e = (refl, e)
-if_some false o x e = absurd (none_some e)
+if_some false o x e = absurd (none-some _ e)
 
 both_parts : {V : Type 0} (joined : V → V → V) (p q : Option V) (v : V) → both joined p q ≡ Some v → (x : V) × (y : V) × (p ≡ Some x) × (q ≡ Some y) × (joined x y ≡ v)
 both_parts joined (Some x) (Some y) v e = let h : joined x y ≡ v = cc in (x, y, refl, refl, h)
-both_parts joined (Some x) None v e = absurd (none_some e)
-both_parts joined None q v e = absurd (none_some e)
+both_parts joined (Some x) None v e = absurd (none-some _ e)
+both_parts joined None q v e = absurd (none-some _ e)
 
 module _ {V : Type 0} (m : MeasureMeaning V) (laws : Laws m.nought m.joined m.before) where
   rides : RideLaws m

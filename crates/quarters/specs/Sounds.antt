@@ -3,12 +3,13 @@ use Rattle.std.specs.Prelude.{◌≡◌, ℕ, ◌+◌, ◌*◌, ◌%◌, ◌≤�
 use Rattle.std.proofs.Common.{arith}
 use Rattle.std.proofs.lemmas.Bool.{and_parts, and_right, ltb-true, ne_eqb}
 use Rattle.streets.specs.Meaning.{Sound}
-use Rattle.streets.specs.Sounds.{none_some, outside}
+use Rattle.std.proofs.lemmas.Option.{none-some}
+use Rattle.streets.specs.Sounds.{outside}
 use Rattle.quarters.specs.Grid.{Grid, grid_meaning, inside, up, right, row, column, leg_of}
 
 in_if : {X : Type 0} (t : Bool) (o : Option X) (x : X) → cond t o None ≡ Some x → t ≡ true
 in_if true o x e = refl
-in_if false o x e = absurd (none_some e)
+in_if false o x e = absurd (none-some _ e)
 
 -- no crossing is its own neighbour
 not_next : (n : ℕ) → (n + 1 == n) ≡ false

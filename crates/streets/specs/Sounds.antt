@@ -1,16 +1,14 @@
 -- The list street keeps what every street keeps.
-use Rattle.std.specs.Prelude.{◌≡◌, ℕ, ◌≤◌, Bool, true, false, cond, ◌||◌, List, take, Some, None, Option, ◌==◌, ◌≢◌, nat_le, nat_lt, slice_index, refl}
+use Rattle.std.specs.Prelude.{◌≡◌, ℕ, ◌≤◌, Bool, true, false, cond, ◌||◌, List, take, Some, None, Option, ◌==◌, nat_le, nat_lt, slice_index, refl}
 use Rattle.std.proofs.Common.{arith}
 use Rattle.std.proofs.lemmas.Bool.{or_parts, or_right, leb-false, le-ltb, eq-eqb, cond-true, cond-false}
+use Rattle.std.proofs.lemmas.Option.{none-some}
 use Rattle.streets.specs.Meaning.{Sound}
 use Rattle.streets.specs.Lists.{list_meaning, counted, last_leg}
 use Rattle.streets.specs.declared.legs.LegRecord.{LegRecord}
 
-pub none_some : {X : Type 0} {x : X} → None ≢ Some x
-none_some e = let z : ◌≡◌ {A = ℕ} 0 1 = cc in omega arith
-
 out_if : {X : Type 0} (t : Bool) (o : Option X) (x : X) → cond t None o ≡ Some x → t ≡ false
-out_if true o x e = absurd (none_some e)
+out_if true o x e = absurd (none-some _ e)
 out_if false o x e = refl
 
 -- a kind that is asked for outside the places

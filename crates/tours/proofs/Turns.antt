@@ -5,7 +5,7 @@ use Rattle.measures.specs.Laws.{Laws}
 use Rattle.streets.specs.Meaning.{StreetMeaning, Sound}
 use Rattle.plans.specs.Job.{JobMeaning, Tree}
 use Rattle.plans.specs.Plans.{Plan, Score}
-use Rattle.plans.proofs.Closure.{none_some}
+use Rattle.std.proofs.lemmas.Option.{none-some}
 use Rattle.measures.specs.Scales.{optional, at_most}
 use Rattle.trees.specs.Tasks.{Task, score, Before as TaskBefore}
 use Rattle.trees.specs.Rounds.{Unlike, FirstLeft, NoneLeft, InTurn, nothing as no-task-plan, next as next-task-plan}
@@ -48,7 +48,7 @@ module _ {V : Type 0} (m : MeasureMeaning V) (laws : Laws m.nought m.joined m.be
   first_only given P v f = record {
     placed = f.plan.placed;
     scored = own;
-    some = λ e. none_some (sym e);
+    some = λ e. none-some _ (sym e);
     new = f.new;
     foremost = λ Q placed new. compared Q new (score (optional m) τ Q) refl;
   } where
@@ -63,7 +63,7 @@ module _ {V : Type 0} (m : MeasureMeaning V) (laws : Laws m.nought m.joined m.be
     compared Q new None e = inr (inl (ap₂ (at_most m.before) e own))
 
   pub none_right : (given : List (ℕ → ℕ)) → NoneLeft (optional m) τ given → NoPlanLeft m s j given
-  none_right given h Q plan new = none_some (sym (h Q plan.placed new) ∙ (plan_some m laws s j sound tree Q plan).2)
+  none_right given h Q plan new = none-some _ (sym (h Q plan.placed new) ∙ (plan_some m laws s j sound tree Q plan).2)
 
   pub none_only : (given : List (ℕ → ℕ)) → NoPlanLeft m s j given → NoneLeft (optional m) τ given
   none_only given h Q placed new = unscored (score (optional m) τ Q) refl where

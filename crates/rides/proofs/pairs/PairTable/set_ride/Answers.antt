@@ -2,6 +2,7 @@ use Rattle.std.proofs.Common.{◌<◌, length, arith}
 use Rattle.rides.proofs.CellWrites.{ride_written}
 use Rattle.rides.proofs.pairs.PairTable.set_ride.Goals as goal
 
+-- ride_written named at the function was tried: `grind` goes past its limit
 pub returns-clause-rides : goal.returns-clause-rides
 returns-clause-rides g c =
     let cells = c.args.self.now.cells.now in
