@@ -73,6 +73,7 @@ pub struct Fault<W> {
     pub at: Spot,
 }
 
+// What is wrong with a field, and where.
 pub type FieldFault = Fault<FieldWrong>;
 
 // What is wrong in a line: a field of it, or the line as a whole.

@@ -5,6 +5,8 @@
 // In TEXT \t is byte 9, \n byte 10, \h byte 200, and \*N;c stands for N bytes c.
 #![tactic(auto)]
 
+ghost use Rattle.std.specs.Prelude.{◌≤◌, length, OnOk};
+
 use anyhow::Context;
 use books::book::read_book;
 use books::line::Counts;
@@ -15,6 +17,7 @@ use jobs::job::Job;
 use jobs::stops::{Link, Stop, Tie};
 use std::alloc::{AllocError, Global};
 use std::fmt::{Display, Formatter, Write};
+use std::slice::Iter;
 use std::{fmt, io, iter};
 use streets::legs::{Leg, LegRecord};
 
@@ -31,105 +34,73 @@ const OLD_LEG: LegRecord = LegRecord {
     },
 };
 
-// Where in a text of a case the reading stands. A state and no split at backslashes, since a backslash may also stand for
-// itself, or be the byte that is repeated.
-#[derive(Clone, Copy)]
-enum State {
-    Plain,
-    // behind a backslash
-    Escape,
-    // behind `\*`, with the count so far
-    Count(u32),
-    // behind the count, before its byte
-    Fill(u32),
-}
-
-// The byte that a letter after a backslash stands for, or the begin of a count.
-fn escaped(out: &mut Vec<u8>, b: u8) -> Result<State, AllocError> {
-    match b {
-        b't' => out.push(9)?,
-        b'n' => out.push(10)?,
-        b'h' => out.push(200)?,
-        b'*' => return Ok(State::Count(0)),
-        _ => out.push(b)?,
-    }
-    Ok(State::Plain)
-}
-
-// The byte that stands N times.
-fn filled(out: &mut Vec<u8>, n: u32, b: u8) -> Result<State, AllocError> {
-    out.extend(iter::repeat_n(b, n as usize))?;
-    Ok(State::Plain)
-}
-
-// One digit more of a count; any other byte ends it.
-fn counted(n: u32, b: u8) -> State {
-    if !b.is_ascii_digit() {
-        return State::Fill(n);
-    }
-    State::Count(n.wrapping_mul(10).wrapping_add(u32::from(b - b'0')))
-}
-
-// One byte of a case's text.
-fn step(out: &mut Vec<u8>, state: State, b: u8) -> Result<State, AllocError> {
-    match state {
-        State::Plain => {
-            if b == b'\\' {
-                return Ok(State::Escape);
-            }
-            out.push(b)?;
-            Ok(State::Plain)
+// What follows `\*`: a count, one byte that ends it, and the byte that stands so often.
+fn fill(out: &mut Vec<u8>, bytes: &mut Iter<u8>) -> Result<(), AllocError>
+    ensures { OnOk result (length bytes.new.rest.now ≤ length bytes.old.rest.now) }
+{
+    let mut count = 0u32;
+    while let Some(b) = bytes.next() {
+        if !b.is_ascii_digit() {
+            break;
         }
-        State::Escape => escaped(out, b),
-        State::Count(n) => Ok(counted(n, b)),
-        State::Fill(n) => filled(out, n, b),
+        count = count.wrapping_mul(10).wrapping_add(u32::from(*b - b'0'));
     }
+    if let Some(b) = bytes.next() {
+        out.extend(iter::repeat_n(*b, count as usize))?;
+    }
+    Ok(())
+}
+
+// What follows a backslash; a letter that stands for nothing else stands for itself.
+fn escaped(out: &mut Vec<u8>, bytes: &mut Iter<u8>) -> Result<(), AllocError>
+    ensures { OnOk result (length bytes.new.rest.now ≤ length bytes.old.rest.now) }
+{
+    match bytes.next() {
+        Some(b't') => out.push(9)?,
+        Some(b'n') => out.push(10)?,
+        Some(b'h') => out.push(200)?,
+        Some(b'*') => fill(out, bytes)?,
+        Some(b) => out.push(*b)?,
+        None => {}
+    }
+    Ok(())
 }
 
 // The bytes that a text of a case stands for.
 fn unescaped(heap: Global, text: &str) -> Result<Vec<u8>, AllocError> {
     let mut out = Vec::new(heap);
-    let mut state = State::Plain;
-    for b in text.as_bytes() {
-        state = step(&mut out, state, *b)?;
+    let mut bytes = text.as_bytes().iter();
+    while let Some(b) = bytes.next() {
+        match b {
+            b'\\' => escaped(&mut out, &mut bytes)?,
+            _ => out.push(*b)?,
+        }
     }
     Ok(out)
 }
 
-// Kinds, each after a space.
-#[derive(Clone, Copy)]
-struct Kinds<'a>(&'a [u8]);
+// What a case shows of a kind, a leg record or a stop. The types are of other crates, so it is no `Display`.
+trait Show {
+    fn show<W: Write>(&self, f: &mut Formatter<W>) -> fmt::Result;
+}
 
-impl Display for Kinds<'_> {
-    fn fmt<W: Write>(&self, f: &mut Formatter<W>) -> fmt::Result {
-        for kind in self.0 {
-            write!(f, " {kind}")?;
-        }
-        Ok(())
+impl Show for u8 {
+    fn show<W: Write>(&self, f: &mut Formatter<W>) -> fmt::Result {
+        write!(f, "{self}")
     }
 }
 
-// Leg records, each after a space.
-#[derive(Clone, Copy)]
-struct Legs<'a>(&'a [LegRecord]);
-
-impl Display for Legs<'_> {
-    fn fmt<W: Write>(&self, f: &mut Formatter<W>) -> fmt::Result {
-        for record in self.0 {
-            let LegRecord { from, to, leg } = *record;
-            write!(f, " {from}-{to}:{}:{}", leg.climb, leg.seconds)?;
-        }
-        Ok(())
+impl Show for LegRecord {
+    fn show<W: Write>(&self, f: &mut Formatter<W>) -> fmt::Result {
+        let LegRecord { from, to, leg } = *self;
+        write!(f, "{from}-{to}:{}:{}", leg.climb, leg.seconds)
     }
 }
 
 // A stop: its kind, and how it hangs on its parent.
-#[derive(Clone, Copy)]
-struct ShownStop(Stop);
-
-impl Display for ShownStop {
-    fn fmt<W: Write>(&self, f: &mut Formatter<W>) -> fmt::Result {
-        let Stop { kind, tie } = self.0;
+impl Show for Stop {
+    fn show<W: Write>(&self, f: &mut Formatter<W>) -> fmt::Result {
+        let Stop { kind, tie } = *self;
         let Some(Tie { parent, link }) = tie else {
             return write!(f, "{kind}");
         };
@@ -138,6 +109,20 @@ impl Display for ShownStop {
             Link::Ride => "ride",
         };
         write!(f, "{kind}:{parent}:{link}")
+    }
+}
+
+// Values, each after a space.
+#[derive(Clone, Copy)]
+struct Spaced<'a, T>(&'a [T]);
+
+impl<T: Show> Display for Spaced<'_, T> {
+    fn fmt<W: Write>(&self, f: &mut Formatter<W>) -> fmt::Result {
+        for value in self.0 {
+            write!(f, " ")?;
+            value.show(f)?;
+        }
+        Ok(())
     }
 }
 
@@ -170,7 +155,7 @@ fn book_case(rt: &HostRuntime, rest: &str) -> anyhow::Result<()> {
         Err(fault) => println!(rt; "{}", ShownFault(fault))?,
     }
     if kinds.len() + legs.len() <= 16 {
-        println!(rt; "  kinds{} legs{}", Kinds(&kinds), Legs(&legs))?;
+        println!(rt; "  kinds{} legs{}", Spaced(&kinds), Spaced(&legs))?;
     }
     Ok(())
 }
@@ -183,11 +168,7 @@ fn job_case(rt: &HostRuntime, text: &str) -> anyhow::Result<()> {
         Ok(stops) => println!(rt; "stops {stops}")?,
         Err(fault) => println!(rt; "{}", ShownFault(fault))?,
     }
-    print!(rt; "  job")?;
-    for stop in job.stops() {
-        print!(rt; " {}", ShownStop(*stop))?;
-    }
-    println!(rt)?;
+    println!(rt; "  job{}", Spaced(job.stops()))?;
     Ok(())
 }
 

@@ -31,6 +31,6 @@ abbrev pub rows : List ℕ → List Row
 rows t = map row_of (lines t)
 
 -- the fields of a line from the byte on at which the next one starts; none if none is left
-unfoldable pub fields_from : List ℕ → Option ℕ → List (List ℕ)
+abbrev pub fields_from : List ℕ → Option ℕ → List (List ℕ)
 fields_from t (Some p) = fields (drop p t)
 fields_from t None = []

@@ -48,7 +48,7 @@ pub fn number<N: Unsigned>(part: &[u8], bound: N, at: Spot) -> Result<N, FieldFa
     if part.is_empty() || part.len() > 5 {
         return Err(at.field_fault(FieldWrong::NotNumber));
     }
-    // the running value has 64 bits whatever the bound, a rule of the project that no `parse` keeps
+    // The running value has 64 bits whatever the bound: a rule of the project, so no `parse` into `N` stands here.
     let mut value: u64 = 0;
     for b in part {
         if !b.is_ascii_digit() {

@@ -77,7 +77,6 @@ impl<'a> Token<'a> {
 }
 
 impl<'a> Reader<'a> {
-    #[tactic(auto, unfolding(crate::specs::Cut::fields_from))]
     // A reader before the first line of a text.
     pub fn new(which: Text, text: &'a [u8]) -> Reader<'a>
         ensures { (rows_left result ≡ rows text.now) × (fields_left result ≡ []) × (spot_of result ≡ spotAt which 0 0) }
@@ -104,7 +103,6 @@ impl<'a> Reader<'a> {
         }
     }
 
-    #[tactic(auto, unfolding(crate::specs::Cut::fields_from))]
     // Goes to the next line, and answers whether there is one. A line without its end is refused. The answer is no `Option`,
     // since nothing is handed out: the fields are asked of the reader.
     pub fn next_line(&mut self) -> Result<bool, LineFault>
@@ -130,7 +128,7 @@ impl<'a> Reader<'a> {
         Ok(true)
     }
 
-    #[tactic(auto, using(crate::proofs::Cuts::line_fields, crate::proofs::Cuts::line_on), unfolding(crate::specs::Cut::fields_from))]
+    #[tactic(auto, using(crate::proofs::Cuts::line_fields, crate::proofs::Cuts::line_on))]
     // The next field of the line at hand, or none past the last.
     pub fn next_field(&mut self) -> Option<Token<'a>>
         ensures left { MatchOption result ((fields_left self.old ≡ []) × (self.new ≡ self.old)) (λ t. FieldStep self.old self.new (part_of t)) }
@@ -147,7 +145,7 @@ impl<'a> Reader<'a> {
         Some(Token::new(part, start))
     }
 
-    #[tactic(auto, using(crate::proofs::Cuts::line_fields), unfolding(crate::specs::Cut::fields_from))]
+    #[tactic(auto, using(crate::proofs::Cuts::line_fields))]
     // How many fields of the line at hand are left.
     pub fn fields(&self) -> usize
         ensures { result ≡ length (fields_left self.now) }
