@@ -12,7 +12,7 @@ use console::limit::admit;
 use faults::TextFault;
 use job_texts::text::read_job;
 use jobs::job::Job;
-use jobs::stops::{Link, Stop, Tie};
+use jobs::stops::{Stop, Tie};
 use std::alloc::{AllocError, Global};
 use std::fmt::{Display, Formatter, Write};
 use std::{fmt, io, iter};
@@ -132,10 +132,6 @@ impl Display for ShownStop {
         let Stop { kind, tie } = self.0;
         let Some(Tie { parent, link }) = tie else {
             return write!(f, "{kind}");
-        };
-        let link = match link {
-            Link::Direct => "direct",
-            Link::Ride => "ride",
         };
         write!(f, "{kind}:{parent}:{link}")
     }
