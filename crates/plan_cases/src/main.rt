@@ -95,7 +95,8 @@ fn read_front(words: &mut SplitTerminator<'_, char>) -> anyhow::Result<[u32; 6]>
     Ok(numbers)
 }
 
-// How a stop hangs on its parent; not at all where the link is neither direct nor a ride.
+// How a stop hangs on its parent; not at all where the link is neither direct nor a ride. The link is a word here, which
+// would first have to be one byte for `Link::try_from`.
 fn tie_of(parent: &str, link: &str) -> anyhow::Result<Option<Tie>> {
     let link = match link {
         "d" => Link::Direct,
@@ -118,13 +119,6 @@ fn read_stop(words: &mut SplitTerminator<'_, char>) -> anyhow::Result<Option<Sto
     Ok(Some(Stop { kind, tie }))
 }
 
-// A draft put into a job, none where it has no stops.
-fn job_of(draft: Draft) -> Option<Job> {
-    let mut job = Job::new();
-    job.put(draft).ok()?;
-    Some(job)
-}
-
 // The job that the words left tell, none where its stops make no tree. The thirteenth stop is refused, so no more are
 // read.
 fn read_job(words: &mut SplitTerminator<'_, char>) -> anyhow::Result<Option<Job>> {
@@ -134,7 +128,7 @@ fn read_job(words: &mut SplitTerminator<'_, char>) -> anyhow::Result<Option<Job>
             return Ok(None);
         }
     }
-    Ok(job_of(draft))
+    Ok(Job::try_from(draft).ok())
 }
 
 // A case as a line tells it: the quarter, none where a number is outside its range, the job, none where its stops make

@@ -14,7 +14,7 @@ use console::limit::admit;
 use faults::{Text, TextFault};
 use job_texts::text::read_job;
 use jobs::job::Job;
-use jobs::stops::{Link, Stop, Tie};
+use jobs::stops::{Stop, Tie};
 use std::alloc::{AllocError, Global};
 use std::fmt::{Display, Formatter, Write};
 use std::slice::Iter;
@@ -103,10 +103,6 @@ impl Show for Stop {
         let Stop { kind, tie } = *self;
         let Some(Tie { parent, link }) = tie else {
             return write!(f, "{kind}");
-        };
-        let link = match link {
-            Link::Direct => "direct",
-            Link::Ride => "ride",
         };
         write!(f, "{kind}:{parent}:{link}")
     }

@@ -208,9 +208,7 @@ mod tests {
         draft.push(Stop { kind: 0, tie: None }).ok()?;
         draft.push(tied(0, first)).ok()?;
         draft.push(tied(parent, second)).ok()?;
-        let mut job = Job::new();
-        job.put(draft).ok()?;
-        Some(job)
+        Job::try_from(draft).ok()
     }
 
     // Forty tables for each of two trees.
