@@ -21,8 +21,8 @@ fn judge(text: &[u8], room: Room) -> Result<Counts, LineFault>
     Ok(entries.told())
 }
 
-#[tactic(auto, using(crate::proofs::Saying::book_refused, crate::proofs::Keeping::book_sensible, crate::proofs::Passes::tallied))]
 // The first pass over a whole text, which must not be too long.
+#[tactic(auto, using(crate::proofs::Saying::book_refused, crate::proofs::Keeping::book_sensible, crate::proofs::Passes::tallied))]
 fn judge_book(text: &[u8], room: Room) -> Result<Counts, TextFault>
     ensures within { IfOk result (λ c. (c.places ≤ room.kinds) × (c.legs ≤ room.legs)) }
     ensures value { result ≡ tally (read_book room text.now) }

@@ -44,8 +44,8 @@ const LAST_PLACE: u8 = 63;
 const MOST: u16 = 65535;
 
 impl Progress {
-    #[tactic(auto, unfolding(crate::specs::Lines::place_of))]
     // A place line after its letter.
+    #[tactic(auto, unfolding(crate::specs::Lines::place_of))]
     fn read_place(self, reader: &mut Reader) -> Result<Entry, LineFault>
         requires { 1 < length (fields_left reader.old) }
         ensures value { result ≡ place_of (spot_of reader.old) self.told self.room (fields_left reader.old) }
@@ -66,8 +66,8 @@ impl Progress {
         Ok(Entry::Place { kind })
     }
 
-    #[tactic(auto, unfolding(crate::specs::Lines::leg_of))]
     // A leg line after its letter.
+    #[tactic(auto, unfolding(crate::specs::Lines::leg_of))]
     fn read_leg(self, reader: &mut Reader) -> Result<Entry, LineFault>
         requires { 3 < length (fields_left reader.old) }
         ensures value { result ≡ leg_of (spot_of reader.old) self.told self.room (fields_left reader.old) }
@@ -94,8 +94,8 @@ impl Progress {
         Ok(Entry::Leg(LegRecord { from, to, leg }))
     }
 
-    #[tactic(auto, unfolding(crate::specs::Lines::line_of))]
     // What the line at hand tells.
+    #[tactic(auto, unfolding(crate::specs::Lines::line_of))]
     pub fn read_line(self, reader: &mut Reader) -> Result<Entry, LineFault>
         ensures value { result ≡ line_of (spot_of reader.old) self.told self.room (fields_left reader.old) }
         ensures fits { IfOk result (λ e. Fits self.told self.room e) }

@@ -96,8 +96,8 @@ fn read_stop(reader: &mut Reader, told: usize) -> Result<Stop, LineFault>
     StopLine::read(reader)?.stop(at, told)
 }
 
-#[tactic(auto, unfolding(crate::specs::Lines::line_of))]
 // The stop that the line at hand tells after `told` others.
+#[tactic(auto, unfolding(crate::specs::Lines::line_of))]
 pub fn read_line(reader: &mut Reader, told: usize) -> Result<Stop, LineFault>
     ensures value { result ≡ line_of (spot_of reader.old) told (fields_left reader.old) }
     ensures keeps { IfOk result (λ s. (told < 12) × (tied told s.tie ≡ true)) }

@@ -24,8 +24,8 @@ fn read_rows(text: &[u8]) -> Result<Draft, LineFault>
     Ok(draft)
 }
 
-#[tactic(auto, using(crate::proofs::Passes::job_refused))]
 // The stops of a whole text, which must not be too long.
+#[tactic(auto, using(crate::proofs::Passes::job_refused))]
 fn read_draft(text: &[u8]) -> Result<Draft, TextFault>
     ensures { drafted_in result ≡ read_text job_lines 0 text.now }
 {

@@ -182,8 +182,8 @@ fn begin<'a, M: Measure>(
     Ok(order)
 }
 
-#[tactic(auto, using(leaders::proofs::Foremost::heads_le, jobs::proofs::Ties::some_stop))]
 // Prints the plan of entry w, `rows` plans being given before it.
+#[tactic(auto, using(leaders::proofs::Foremost::heads_le, jobs::proofs::Ties::some_stop))]
 fn print_plan<M: Measure>(
     rt: &HostRuntime,
     cells: &[Cell<M, M::Value>],

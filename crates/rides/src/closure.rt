@@ -23,8 +23,8 @@ impl<'a, M: Measure> PairTable<'a, M, M::Value> {
         self.set_ride(i, j, best);
     }
 
-    #[tactic(auto, using(crate::proofs::Rounding::row_end))]
     // One row of round k: the pairs from i. Without a way from i to k there is nothing to do.
+    #[tactic(auto, using(crate::proofs::Rounding::row_end))]
     fn relax_row(&mut self, k: usize, i: usize)
         requires { (i < self.old.n) × (k < self.old.n) }
         ensures rides { (s : StreetMeaning) → RoundAt M.Measure.meaning s k i 0 self.old → RoundAt M.Measure.meaning s k (i + 1) 0 self.new }
@@ -38,8 +38,8 @@ impl<'a, M: Measure> PairTable<'a, M, M::Value> {
         }
     }
 
-    #[tactic(auto, using(crate::proofs::Rounding::round_start, crate::proofs::Rounding::round_end))]
     // Round k: ways by place k are taken where they are the lesser.
+    #[tactic(auto, using(crate::proofs::Rounding::round_start, crate::proofs::Rounding::round_end))]
     fn relax_round(&mut self, k: usize)
         requires { k < self.old.n }
         ensures rides { (s : StreetMeaning) → FullBelow M.Measure.meaning s k self.old → FullBelow M.Measure.meaning s (k + 1) self.new }

@@ -55,8 +55,8 @@ impl<'a, M, V: Copy> PairTable<'a, M, V> {
         self.cells[i].ride = ride;
     }
 
-    #[tactic(auto, using(crate::proofs::CellWrites::left_by_write))]
     // Writes the ride from a to b.
+    #[tactic(auto, using(crate::proofs::CellWrites::left_by_write))]
     pub(crate) fn set_ride(&mut self, a: usize, b: usize, ride: Option<V>)
         requires { (a < self.old.n) × (b < self.old.n) }
         ensures rides { Written ride_in self.old.n a b ride self.old.cells.now self.new.cells.now }

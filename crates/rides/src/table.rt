@@ -60,9 +60,9 @@ fn lacks_room<M, V>(cells: &[Cell<M, V>], n: usize) -> bool
     cells.len() < n * n
 }
 
-#[tactic(auto, using(crate::proofs::Starting::short_fills))]
 // Fills the table of a street's legs and rides, n * n cells for n places, with the kinds of the places, and answers n.
 // With fewer cells it is refused and writes nothing.
+#[tactic(auto, using(crate::proofs::Starting::short_fills))]
 pub fn fill<M: Measure, S: Street>(
     cells: &mut [Cell<M, M::Value>],
     street: &S,

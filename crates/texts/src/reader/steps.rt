@@ -19,8 +19,8 @@ fn before(part: &[u8], b: u8) -> Option<usize>
     part.iter().position(|byte| *byte == b)
 }
 
-#[tactic(auto, using(crate::proofs::Cuts::line_closed, crate::proofs::Cuts::line_open))]
 // Where the line that starts at `start` ends, or none where its end is missing.
+#[tactic(auto, using(crate::proofs::Cuts::line_closed, crate::proofs::Cuts::line_open))]
 fn line_end(text: &[u8], start: usize) -> Option<usize>
     requires { start ≤ length text.now }
     ensures { MatchOption result (start < length text.now → rows (drop start text.now) ≡ (fields (drop start text.now), false) ∷ []) (λ end. (start ≤ end) × (end < length text.now) × (rows (drop start text.now) ≡ (fields (drop start (take end text.now)), true) ∷ rows (drop (end + 1) text.now))) }
@@ -128,8 +128,8 @@ impl<'a> Reader<'a> {
         Ok(true)
     }
 
-    #[tactic(auto, using(crate::proofs::Cuts::line_fields, crate::proofs::Cuts::line_on))]
     // The next field of the line at hand, or none past the last.
+    #[tactic(auto, using(crate::proofs::Cuts::line_fields, crate::proofs::Cuts::line_on))]
     pub fn next_field(&mut self) -> Option<Token<'a>>
         ensures left { MatchOption result ((fields_left self.old ≡ []) × (self.new ≡ self.old)) (λ t. FieldStep self.old self.new (part_of t)) }
         ensures part { IfSome result (λ t. (Some (start_of t) ≡ self.old.pos) × (part_of t ≡ take (length (part_of t)) (drop (start_of t) self.old.text.now)) × Sorted t) }
@@ -145,8 +145,8 @@ impl<'a> Reader<'a> {
         Some(Token::new(part, start))
     }
 
-    #[tactic(auto, using(crate::proofs::Cuts::line_fields))]
     // How many fields of the line at hand are left.
+    #[tactic(auto, using(crate::proofs::Cuts::line_fields))]
     pub fn fields(&self) -> usize
         ensures { result ≡ length (fields_left self.now) }
     {
