@@ -12,6 +12,6 @@ module _ {W : Type 0} (σ : Scale W) (gives : ℕ → W → Type 0) where
   total_more k t v u is given e f each = e ∙ ap₂ σ.joined (is f (λ s w l. each s w (omega arith))) (each k v (omega arith) given) ∙ sym (ap (λ j. total σ j f) (add-one k))
 
 -- a total of what is given at each number below k is the total of that
-pub total_of : {W : Type 0} (σ : Scale W) (k : ℕ) (gives : ℕ → W → Type 0) (f : ℕ → W) (t : W) → IsTotal σ k gives t → ((s : ℕ) (v : W) → s < k → gives s v → v ≡ f s) → t ≡ total σ k f
+pub total_of : {W : Type 0} (σ : Scale W) (k m : ℕ) (gives : ℕ → W → Type 0) (f : ℕ → W) (t : W) → k ≡ m → IsTotal σ k gives t → ((s : ℕ) (v : W) → s < k → gives s v → v ≡ f s) → t ≡ total σ m f
 unfolding IsTotal
-total_of σ k gives f t is each = is f each
+total_of σ k m gives f t e is each = is f each ∙ ap (λ j. total σ j f) e
