@@ -12,7 +12,7 @@ pub fn join_options<M: Measure>(a: Option<M::Value>, b: Option<M::Value>) -> Opt
 }
 
 // The values at the numbers below count, joined; none where one of them is missing.
-#[tactic(auto, using(crate::proofs::Totals::total_none))]
+#[tactic(auto, using(crate::proofs::Totals::given_none))]
 pub fn total<M: Measure, F: Fn(usize) -> Option<M::Value>>(
     count: usize,
     value: F,
