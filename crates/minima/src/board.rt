@@ -88,8 +88,8 @@ impl<'a, M, V: Copy> BoardMut<'a, M, V> {
         stop_place(self.n, self.job.len(), s, q)
     }
 
-    // Writes a stop's own value at a place; nothing else changes. The three writers beside those of `tables::access` say that
-    // the board stays the same, which each loop that writes would else have to show, and find the cell in one place.
+    // Writes a stop's own value at a place; nothing else changes. The writers of `tables::access` write any cell of a slice; that
+    // the board stays the same, which the loops over a board need, can only be said here.
     pub fn set_own(&mut self, s: usize, q: usize, value: Option<V>)
         requires { (s < length (stops_of self.old.job.now)) × (q < self.old.n) }
         ensures written { OwnWritten (stop_cell self.old.n s q) value self.old.cells.now self.new.cells.now }
