@@ -1,5 +1,5 @@
 -- The rest, joined to what a stop adds at a place, is the bound.
-use Rattle.std.proofs.Common.{◌≡◌, ℕ, ◌+◌, ◌<◌, ◌≤◌, Bool, ◌&&◌, cond, eqb, ltb, length, Some, Option, sym, ap, ◌∙◌, subst, ap₂, ⊎_elim, arith}
+use Rattle.std.proofs.Common.{◌≡◌, ℕ, ◌+◌, ◌<◌, ◌≤◌, Bool, true, false, ◌&&◌, cond, eqb, ltb, length, Some, None, Option, refl, sym, ap, ◌∙◌, subst, ap₂, ⊎_elim, arith}
 use Rattle.measures.specs.Optional.{both}
 use Rattle.std.proofs.lemmas.Bool.{cases_lt, cases_eq, cond-false, ne_eqb}
 use Rattle.std.proofs.lemmas.Bool.Decides.{nat_tests}
@@ -91,3 +91,13 @@ pub bound_joined : {M V : Type 0} (meaning : MeasureMeaning V) (laws : Laws mean
     IsBound meaning p q (both meaning.joined (rest_in meaning p.board.now p.i (places_of p.places.now)) (here_in meaning p.board.now p.i (places_of p.places.now) q))
 unfolding IsBound
 bound_joined meaning laws p q h τ H tables = bound_is meaning laws p.board.now τ H tables p.i (places_of p.places.now) q p.stop h p.placed
+
+-- what a stop adds, from its own value and its link's, which is zero for the root
+pub cost_made : {V : Type 0} (nought : V) (joined : V → V → V) (before : V → V → Bool) (laws : Laws nought joined before) (root : Bool) (own link o l : Option V) →
+    own ≡ o → link ≡ cond root (Some nought) l → both joined own link ≡ cond root o (both joined o l)
+cost_made {V} nought joined before laws root own link o l e f = ap₂ (both joined) e f ∙ root_or root o
+  where
+    root_or : (r : Bool) (o : Option V) → both joined o (cond r (Some nought) l) ≡ cond r o (both joined o l)
+    root_or true (Some x) = ap Some (laws.comm x nought ∙ laws.zero_joined x)
+    root_or true None = refl
+    root_or false o = refl

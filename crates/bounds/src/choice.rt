@@ -13,7 +13,8 @@ pub struct Choice<V> {
 }
 
 impl<V: Copy> Choice<V> {
-    // The choice with the lesser value, of equals the first.
+    // The choice with the lesser value, of equals the first. It stands apart from `cells::order::lesser`: one function for both
+    // would take what is compared by a trait or a closure, which is longer than the test that they share.
     pub(crate) fn or_lesser<M: Measure<Value = V>>(self, other: Choice<V>) -> Choice<V>
         ensures { result ≡ (if at_most M.Measure.meaning.before self.value other.value then self else other) }
     {

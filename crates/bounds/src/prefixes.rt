@@ -6,7 +6,7 @@ use crate::choice::Choice;
 use crate::joined::Joined;
 use cells::places::Places;
 use measures::Measure;
-use measures::optional::join_options;
+use measures::optional::{join_options, total};
 use minima::board::Board;
 use sets::PlaceSet;
 
@@ -49,6 +49,7 @@ impl<'a, M: Measure> Prefix<'a, M, M::Value> {
     }
 
     // What a stop below stop i adds at its place: its own value and its link's.
+    #[tactic(auto, using(crate::proofs::Bounding::cost_made))]
     fn cost(&self, s: usize) -> Option<M::Value>
         requires { s < self.now.i }
         ensures { let places = places_of self.now.places.now in
@@ -56,7 +57,7 @@ impl<'a, M: Measure> Prefix<'a, M, M::Value> {
     {
         let q = self.place(s);
         let link = self.link_to(s, q);
-        join_options::<M>(self.board.own(s, q), link)
+        join_options::<M>(self.board.at(s, q).own, link)
     }
 
     // What stop s adds: its cost where it has a place, or the least value of it and all below it.
@@ -70,7 +71,7 @@ impl<'a, M: Measure> Prefix<'a, M, M::Value> {
         let parent = self.board.job.parent(s);
         if parent < self.i {
             let p = self.place(parent);
-            self.board.hang(s, p)
+            self.board.at(s, p).hang
         } else {
             Some(M::ZERO)
         }
@@ -88,16 +89,11 @@ impl<'a, M: Measure> Prefix<'a, M, M::Value> {
         }
     }
 
-    // What all stops but stop i add. By the stops' numbers, since the tables are read by them.
-    #[tactic(auto, using(trees::proofs::Bounds::total_none, trees::proofs::Bounds::total_more))]
+    // What all stops but stop i add.
     pub(crate) fn rest(&self) -> Option<M::Value>
         ensures { result ≡ rest_in M.Measure.meaning self.now.board.now self.now.i (places_of self.now.places.now) }
     {
-        let mut sum = Some(M::ZERO);
-        for s in 0..self.board.job.len() {
-            sum = join_options::<M>(sum, self.other(s));
-        }
-        sum
+        total::<M, _>(self.board.job.len(), |s| self.other(s))
     }
 
     // What stop i and all below it add at place q at the least.

@@ -20,11 +20,7 @@ fn own_value<M: Measure>(board: &Board<'_, M, M::Value>, stop: Stop, q: usize) -
     requires { q < board.now.n }
     ensures { let b = board.now in result ≡ (if takes stop (kind_in b.cells.now b.n q) then Some M.Measure.meaning.nought else None) }
 {
-    if stop.takes(board.kind(q)) {
-        Some(M::ZERO)
-    } else {
-        None
-    }
+    stop.takes(board.kind(q)).then_some(M::ZERO)
 }
 
 // Writes the own values of stop s, place by place.

@@ -1,5 +1,5 @@
 -- Values with one more that stands for none.
-use Rattle.std.specs.Prelude.{◌≡◌, ℕ, zero, suc, Bool, true, false, Some, None, Option}
+use Rattle.std.specs.Prelude.{◌≡◌, ℕ, ◌<◌, zero, suc, Bool, true, false, Some, None, Option}
 use Rattle.measures.specs.Optional.{both}
 use Rattle.measures.specs.Laws.{Laws}
 use Rattle.measures.specs.Meaning.{MeasureMeaning}
@@ -32,3 +32,7 @@ optional meaning = record { nought = Some meaning.nought; none = None; joined = 
 unfoldable pub total : {W : Type 0} → Scale W → ℕ → (ℕ → W) → W
 total σ zero f = σ.nought
 total σ (suc k) f = σ.joined (total σ k f) (f k)
+
+-- t is the join of the values that are given at the numbers below k, whatever they are
+unfoldable pub IsTotal : {W : Type 0} → Scale W → ℕ → (ℕ → W → Type 0) → W → Type 0
+IsTotal {W} σ k gives t = (f : ℕ → W) → ((s : ℕ) (v : W) → s < k → gives s v → v ≡ f s) → t ≡ total σ k f

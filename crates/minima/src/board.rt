@@ -18,8 +18,8 @@ pub struct Board<'a, M, V> {
 }
 
 impl<'a, M, V: Copy> Board<'a, M, V> {
-    // The cell of a stop at a place; `own`, `best` and `hang` each read one field of it, which their contracts name.
-    fn stop(&self, s: usize, q: usize) -> &Cell<M, V>
+    // The cell of a stop at a place; its `hang` is the one below that place of the stop's parent.
+    pub fn at(&self, s: usize, q: usize) -> &Cell<M, V>
         requires { (s < length (stops_of self.now.job.now)) × (q < self.now.n) }
         ensures own { result.now.own ≡ own_in self.now.cells.now self.now.n s q }
         ensures best { result.now.best ≡ best_in self.now.cells.now self.now.n s q }
@@ -27,30 +27,6 @@ impl<'a, M, V: Copy> Board<'a, M, V> {
     {
         let m = self.job.len();
         stop_at(self.cells, self.n, m, s, q)
-    }
-
-    // A stop's own value at a place.
-    pub fn own(&self, s: usize, q: usize) -> Option<V>
-        requires { (s < length (stops_of self.now.job.now)) × (q < self.now.n) }
-        ensures { result ≡ own_in self.now.cells.now self.now.n s q }
-    {
-        self.stop(s, q).own
-    }
-
-    // The least value of a stop's subtree at a place.
-    pub fn best(&self, s: usize, q: usize) -> Option<V>
-        requires { (s < length (stops_of self.now.job.now)) × (q < self.now.n) }
-        ensures { result ≡ best_in self.now.cells.now self.now.n s q }
-    {
-        self.stop(s, q).best
-    }
-
-    // The least value of a stop's link and subtree below a place of its parent.
-    pub fn hang(&self, s: usize, p: usize) -> Option<V>
-        requires { (s < length (stops_of self.now.job.now)) × (p < self.now.n) }
-        ensures { result ≡ hang_in self.now.cells.now self.now.n s p }
-    {
-        self.stop(s, p).hang
     }
 
     // The kind of a place.
@@ -112,7 +88,8 @@ impl<'a, M, V: Copy> BoardMut<'a, M, V> {
         stop_place(self.n, self.job.len(), s, q)
     }
 
-    // Writes a stop's own value at a place; nothing else changes.
+    // Writes a stop's own value at a place; nothing else changes. The writers of `tables::access` write any cell of a slice; that
+    // the board stays the same, which the loops over a board need, can only be said here.
     pub fn set_own(&mut self, s: usize, q: usize, value: Option<V>)
         requires { (s < length (stops_of self.old.job.now)) × (q < self.old.n) }
         ensures written { OwnWritten (stop_cell self.old.n s q) value self.old.cells.now self.new.cells.now }

@@ -12,19 +12,27 @@ ghost use Rattle.minima.specs.Tables.{link_in, hanging_in, RowIn, Holds, task_in
 use crate::board::{Board, BoardMut};
 use cells::order::lesser;
 use measures::Measure;
-use measures::optional::join_options;
+use measures::optional::{join_options, total};
 
 impl<'a, M: Measure> Board<'a, M, M::Value> {
-    // A sum with what stop c adds to the subtree of stop s at place q, nothing where it does not hang on s.
-    fn with_hanging(&self, sum: Option<M::Value>, s: usize, q: usize, c: usize) -> Option<M::Value>
+    // What stop c adds to the subtree of stop s at place q, nothing where it does not hang on s.
+    fn hung(&self, s: usize, q: usize, c: usize) -> Option<M::Value>
         requires { (q < self.now.n) × (c < length (stops_of self.now.job.now)) }
-        ensures { result ≡ both M.Measure.meaning.joined sum (if child_in (stops_of self.now.job.now) s c then hang_in self.now.cells.now self.now.n c q else Some M.Measure.meaning.nought) }
+        ensures { result ≡ (if child_in (stops_of self.now.job.now) s c then hang_in self.now.cells.now self.now.n c q else Some M.Measure.meaning.nought) }
     {
         if self.job.hangs_on(c, s) {
-            join_options::<M>(sum, self.hang(c, q))
+            self.at(c, q).hang
         } else {
-            sum
+            Some(M::ZERO)
         }
+    }
+
+    // What all stops that hang on stop s add to its subtree at place q.
+    fn hanging(&self, s: usize, q: usize) -> Option<M::Value>
+        requires { q < self.now.n }
+        ensures { result ≡ hanging_in M.Measure.meaning self.now.cells.now self.now.n (stops_of self.now.job.now) s q }
+    {
+        total::<M, _>(self.job.len(), |c| self.hung(s, q, c))
     }
 
     // The least value of the subtree of stop s at place q, where the stops that hang on it have theirs.
@@ -32,12 +40,15 @@ impl<'a, M: Measure> Board<'a, M, M::Value> {
         requires { (s < length (stops_of self.now.job.now)) × (q < self.now.n) }
         ensures { result ≡ both M.Measure.meaning.joined (own_in self.now.cells.now self.now.n s q) (hanging_in M.Measure.meaning self.now.cells.now self.now.n (stops_of self.now.job.now) s q) }
     {
-        let mut sum = Some(M::ZERO);
-        // by number: the tables are read by it, and `hangs_on` asks for it
-        for c in 0..self.job.len() {
-            sum = self.with_hanging(sum, s, q, c);
-        }
-        join_options::<M>(self.own(s, q), sum)
+        join_options::<M>(self.at(s, q).own, self.hanging(s, q))
+    }
+
+    // The value of the link of stop s from place p to place q, with the least of its subtree there.
+    fn through(&self, s: usize, p: usize, q: usize) -> Option<M::Value>
+        requires { (s < length (stops_of self.now.job.now)) × (p < self.now.n) × (q < self.now.n) }
+        ensures { result ≡ both M.Measure.meaning.joined (link_in self.now.cells.now self.now.n (stops_of self.now.job.now) s p q) (best_in self.now.cells.now self.now.n s q) }
+    {
+        join_options::<M>(self.link(s, p, q), self.at(s, q).best)
     }
 
     // The least value of the link and the subtree of stop s below place p of its parent.
@@ -47,8 +58,7 @@ impl<'a, M: Measure> Board<'a, M, M::Value> {
     {
         let mut least = None;
         for q in 0..self.n {
-            let value = join_options::<M>(self.link(s, p, q), self.best(s, q));
-            least = lesser::<M>(least, value);
+            least = lesser::<M>(least, self.through(s, p, q));
         }
         least
     }

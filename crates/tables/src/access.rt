@@ -3,6 +3,9 @@ ghost use Rattle.tables.specs.Tables.{blank, leg_in, ride_in, kind_in, own_in, b
 
 use cells::cell::{Cell, Entry};
 
+// The bounds of n, of m and of the length stand at each function, since they are bounds of a call's own arguments. Who calls,
+// as a board, has them in its own type; a struct of n and m that has them would be made for a single call.
+
 // Where cell `b` of row `a` stands in a table of rows with n cells each.
 #[tactic(auto, using(std::proofs::lemmas::Nat::rows))]
 fn row_place(n: usize, rows: usize, a: usize, b: usize) -> usize

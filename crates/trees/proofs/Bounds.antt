@@ -1,5 +1,5 @@
 -- One stop more: the bound of a prefix is the least of the bounds of the prefixes one longer.
-use Rattle.std.proofs.Common.{◌≡◌, ℕ, zero, suc, ◌+◌, ◌<◌, ◌≤◌, true, false, cond, eqb, ltb, sym, refl, ap, ◌∙◌, subst, ap₂, inl, inr, ⊎_elim, add-one, arith}
+use Rattle.std.proofs.Common.{◌≡◌, ℕ, zero, suc, ◌+◌, ◌<◌, ◌≤◌, true, false, cond, eqb, ltb, sym, refl, ap, ◌∙◌, subst, ap₂, inl, inr, ⊎_elim, arith}
 use Rattle.std.proofs.lemmas.Bool.{both_ways, cases_Bool, cases_lt, cases_eq, cond-true, cond-false, lt-ltb, eq-eqb, ne_eqb}
 use Rattle.std.proofs.lemmas.Bool.Decides.{nat_tests}
 use Rattle.measures.specs.Laws.{Laws}
@@ -13,15 +13,6 @@ module _ {W : Type 0} (τ : Task W) (rooted : Rooted τ) where
 
   pub root_par : (s : ℕ) → s ≡ 0 → τ.par s ≡ 0
   root_par s e = ap τ.par e ∙ rooted.0
-
-module _ {W : Type 0} (σ : Scale W) where
-  pub total_none : (f : ℕ → W) → total σ 0 f ≡ σ.nought
-  unfolding total
-  total_none f = refl
-
-  pub total_more : (k : ℕ) (f : ℕ → W) → total σ (k + 1) f ≡ σ.joined (total σ k f) (f k)
-  unfolding total
-  total_more k f = ap (λ j. total σ j f) (add-one k)
 
 module _ {W : Type 0} (σ : Scale W) (sound : Sound σ) where
   laws : Laws σ.nought σ.joined σ.leq

@@ -1,4 +1,4 @@
-use Rattle.std.proofs.Common.{cond, Option, sym, refl, ap, ◌∙◌, subst, ap₂}
+use Rattle.std.proofs.Common.{cond, Option, sym, refl, ap, ◌∙◌, subst}
 use Rattle.measures.specs.Optional.{both}
 use Rattle.measures.specs.Scales.{optional, at_most}
 use Rattle.trees.specs.Minima.{IsLeast}
@@ -12,6 +12,5 @@ use Rattle.minima.proofs.subtrees.Board+M+M+Value.hang_value.Goals as goal
 
 pub loop-q-preserved : goal.loop-q-preserved
 loop-q-preserved g c k e' = let m = g.M.Measure.meaning in let V = g.row.M-Value.Denot in
-    let e = c.join_options-value.ensures ∙ ap₂ (both m.joined) c.link.ensures c.best.ensures in
-    subst (λ (v : Option V). IsLeast (optional m) k (λ q. both m.joined (link_in c.args.self.now.cells.now c.args.self.now.n (stops_of c.args.self.now.job.now) c.args.s c.args.p q) (best_in c.args.self.now.cells.now c.args.self.now.n c.args.s q)) v) (sym (c.lesser-least.ensures ∙ ap (λ v. cond (at_most m.before c.loop-q.least v) c.loop-q.least v) e))
+    subst (λ (v : Option V). IsLeast (optional m) k (λ q. both m.joined (link_in c.args.self.now.cells.now c.args.self.now.n (stops_of c.args.self.now.job.now) c.args.s c.args.p q) (best_in c.args.self.now.cells.now c.args.self.now.n c.args.s q)) v) (sym (c.lesser-least.ensures ∙ ap (λ v. cond (at_most m.before c.loop-q.least v) c.loop-q.least v) c.through.ensures))
     (least_at e' (least_more (optional m) (lifted m g.met.M.Measure.lawful.laws) c.loop-q.q _ c.loop-q.least (c.loop-q.invariant c.loop-q.q refl)))
