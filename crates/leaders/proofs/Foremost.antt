@@ -9,9 +9,9 @@ use Rattle.trees.proofs.Lift.{lifted}
 use Rattle.trees.proofs.Choosing.{sooner_total}
 use Rattle.cells.specs.declared.cell.Cell.{Cell}
 use Rattle.cells.specs.declared.cell.Entry.{Entry}
-use Rattle.cells.specs.Cells.{places_of, space_of, entry_before}
+use Rattle.cells.specs.Cells.{space_of, entry_before}
 use Rattle.tables.specs.Tables.{entry_in}
-use Rattle.waiting.specs.Queues.{row_start, FirstWaiting}
+use Rattle.waiting.specs.Queues.{row_start, Placed, FirstWaiting}
 use Rattle.waiting.proofs.Leasts.{none_behind, no_plan, chosen, first_left}
 use Rattle.leaders.specs.Leaders.{AllLed, Rows, HeadPlan}
 use Rattle.leaders.proofs.Heads.{chain}
@@ -85,9 +85,9 @@ head_in k m w s l = let a = heads_le k m s in omega arith
 
 -- a head with a plan is in use, and can be split
 pub in_use : {M V : Type 0} (cells : List (Cell M V)) (base n m k rows w : ℕ) → 1 ≤ m → Rows cells base n m k rows → w < k → ((entry_in cells (base + w)).score ≡ None → ⊥) →
-    (w ≤ rows) × ((entry_in cells (base + w)).depth < m) × ((t : ℕ) → t < m → places_of (entry_in cells (base + w)).places t < n)
+    (w ≤ rows) × Placed n m (entry_in cells (base + w))
 in_use cells base n m k rows w some rows_in l has = let s = rows_in.queue.safe w (head_in k m w some l) has in
-    (⊎_elim (λ h. absurd (let d = rows_in.heads w (omega arith) (omega arith) l in let e = s.0 in omega arith)) (λ h. h) (cases_lt rows w), s.0, s.1)
+    (⊎_elim (λ h. absurd (let d = rows_in.heads w (omega arith) (omega arith) l in let e = s.0 in omega arith)) (λ h. h) (cases_lt rows w), s)
 
 -- the head in which the first plan waits has a plan, is in use and can be split; and it has the first plan left, or no plan
 -- is left
@@ -97,7 +97,7 @@ module _ {M V : Type 0} (meaning : MeasureMeaning V) (cells : List (Cell M V)) (
   some_head (Some w) f = (f.some.0, f.some.1)
 
   pub ready_head : (n rows : ℕ) (r : Option ℕ) → 1 ≤ m → FirstWaiting meaning cells base k r → Rows cells base n m k rows →
-      IfSome r (λ w. (w ≤ rows) × ((entry_in cells (base + w)).depth < m) × ((t : ℕ) → t < m → places_of (entry_in cells (base + w)).places t < n))
+      IfSome r (λ w. (w ≤ rows) × Placed n m (entry_in cells (base + w)))
   ready_head n rows None some f rows_in = tt
   ready_head n rows (Some w) some f rows_in = in_use cells base n m k rows w some rows_in f.some.0 f.some.1
 

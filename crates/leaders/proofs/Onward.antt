@@ -108,7 +108,7 @@ moved P b b' m m' k k' p q r h = subst (λ x. P x m' k') p (subst (λ x. P b x k
 
 -- after a split and the two promotions one plan more is given
 module _ {M V : Type 0} (meaning : MeasureMeaning V) (laws : Laws meaning.nought meaning.joined meaning.before) (j : Job) (n base k rows w b m' k' b₂ m₂ k₂ : ℕ) (old mid one new : List (Cell M V))
-    (givable : Givable old n (stops_of j) base k rows w) (split : SplitOff meaning (stops_of j) n base k rows w old mid)
+    (behind : n * n + length (stops_of j) * n ≤ base) (givable : Givable old n (stops_of j) base k rows w) (split : SplitOff meaning (stops_of j) n base k rows w old mid)
     (same-base : b ≡ base) (same-m : m' ≡ length (stops_of j)) (same-k : k' ≡ k) (again-base : b₂ ≡ base) (again-m : m₂ ≡ length (stops_of j)) (again-k : k₂ ≡ k)
     (led-one : Led meaning one b m' k' w) (to-one : Promoted mid one b m' k' w) (led-new : Led meaning new b₂ m₂ k₂ rows) (to-new : Promoted one new b₂ m₂ k₂ rows) where
   some : 1 ≤ length (stops_of j)
@@ -132,7 +132,7 @@ module _ {M V : Type 0} (meaning : MeasureMeaning V) (laws : Laws meaning.nought
   pub advanced : Advanced meaning (stops_of j) n base k rows w old new
   advanced = record {
     kept = kept;
-    tables = tables_kept old new n base (stops_of j) givable.split.behind kept meaning;
+    tables = tables_kept old new n base (stops_of j) behind kept meaning;
     used = λ in_use. rows_promoted one new base (length (stops_of j)) k rows some rl second n (rows + 1) (omega arith)
         (rows_promoted mid one base (length (stops_of j)) k w some wl first n (rows + 1) (let h = givable.head in omega arith) record { queue = split.queue in_use.queue; heads = split.heads in_use.heads });
     led = all_led meaning old mid one new base (length (stops_of j)) k rows w some rl wl split.others first second

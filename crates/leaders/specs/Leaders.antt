@@ -10,7 +10,7 @@ use Rattle.cells.specs.declared.cell.Cell.{Cell}
 use Rattle.cells.specs.Cells.{places_of, entry_before}
 use Rattle.tables.specs.Tables.{blank, entry_in, Kept}
 use Rattle.minima.specs.Tables.{Tables}
-use Rattle.waiting.specs.Queues.{waiting_in, row_start, Queue, FreeHeads, Splittable}
+use Rattle.waiting.specs.Queues.{waiting_in, row_start, Queue, FreeHeads, TablesKept, Splittable}
 
 -- the head of a row is at or before every other entry of it
 pub record Led {M V : Type 0} (meaning : MeasureMeaning V) (cells : List (Cell M V)) (base m k row : ℕ) : Type 0 where
@@ -59,7 +59,7 @@ pub record Givable {M V : Type 0} (cells : List (Cell M V)) (n : ℕ) (stops : L
 -- and where every plan not given waited, every other one waits on
 pub record Advanced {M V : Type 0} (meaning : MeasureMeaning V) (stops : List Stop) (n base k rows w : ℕ) (old new : List (Cell M V)) : Type 0 where
   pub kept : Kept base old new
-  pub tables : (τ : Task (Option V)) (H : ℕ → ℕ → Option V) → Tables meaning old n stops τ H → Tables meaning new n stops τ H
+  pub tables : TablesKept meaning n stops old new
   pub used : Rows old base n (length stops) k rows → Rows new base n (length stops) k (rows + 1)
   pub led : AllLed meaning old base (length stops) k rows → AllLed meaning new base (length stops) k (rows + 1)
   pub stands : (τ : Task (Option V)) (H : ℕ → ℕ → Option V) (given : List (ℕ → ℕ)) → Tables meaning old n stops τ H → Rows old base n (length stops) k rows →

@@ -1,6 +1,7 @@
 ghost use Rattle.std.specs.Prelude.{◌≡◌, ℕ, ◌+◌, ◌-◌, ◌*◌, ◌<◌, ◌≤◌, true, not, ◌⊎◌, length, IfSome, None, MatchOption, ◌≢◌};
-ghost use Rattle.cells.specs.Cells.{entry_before, places_of};
+ghost use Rattle.cells.specs.Cells.{entry_before};
 ghost use Rattle.tables.specs.Tables.{entry_in};
+ghost use Rattle.waiting.specs.Queues.{Placed};
 ghost use Rattle.leaders.specs.Leaders.{Earliest, Exchanged, Led, Promoted, Rows, HeadPlan};
 
 use cells::cell::Cell;
@@ -102,8 +103,7 @@ where
     M::Value: 'a,
     requires { let e = entries.now in e.base + e.k * e.m ≤ length cells.now }
     ensures some { let e = entries.now in IfSome result (λ w. (w < e.k) × ((entry_in cells.now (e.base + w)).score ≢ None)) }
-    ensures ready { let e = entries.now in (n rows : ℕ) → Rows cells.now e.base n e.m e.k rows → IfSome result (λ w. (w ≤ rows) × ((entry_in cells.now (e.base + w)).depth < e.m)
-        × ((t : ℕ) → t < e.m → places_of (entry_in cells.now (e.base + w)).places t < n)) }
+    ensures ready { let e = entries.now in (n rows : ℕ) → Rows cells.now e.base n e.m e.k rows → IfSome result (λ w. (w ≤ rows) × Placed n e.m (entry_in cells.now (e.base + w))) }
     ensures plan { let e = entries.now in HeadPlan M.Measure.meaning cells.now e.base e.m e.k result }
 {
     first_in::<M>(cells, entries.base, entries.k)

@@ -26,10 +26,10 @@ use Rattle.minima.specs.Tables.{Holds, Tables}
 use Rattle.minima.specs.Boards.{SameBoard}
 use Rattle.minima.specs.declared.board.BoardMut.{BoardMut}
 use Rattle.jobs.proofs.Ties.{job_tree, some_stop}
-use Rattle.waiting.specs.Queues.{waiting_in}
+use Rattle.waiting.specs.Queues.{waiting_in, Placed, TablesKept}
 use Rattle.leaders.specs.Leaders.{AllLed, Rows, Givable, Advanced, HeadPlan}
 use Rattle.leaders.proofs.Foremost.{head_in}
-use Rattle.turns.specs.Standing.{behind_tables, needed, Roomy, Tabled, Standing, Waits, Looked, Gave}
+use Rattle.turns.specs.Standing.{behind_tables, needed, Tabled, Standing, Waits, Looked, Gave}
 
 -- the first plan left is the one that is chosen among the subspaces
 pub chosen_if_first : {W : Type 0} (σ : Scale W) (sound : Sound σ) (τ : Task W) (H : ℕ → ℕ → W) → Rooted τ → Minimal σ τ H → (given : List (ℕ → ℕ)) (len : ℕ) (E : ℕ → Subspace W) (w : ℕ) → Partition σ τ H given len E → w < len →
@@ -109,22 +109,17 @@ chosen_plan {M} {V} meaning laws street j n k w given cells v s l e first = chos
     ((tour_laws_lem meaning laws).first_only street (job_meaning (stops_of j)) given (places_of (entry_in cells (behind_tables n (length (stops_of j)) + w)).places) v s.tabled.sound ((tour_laws_lem meaning laws).tree (stops_of j) (job_tree j)) first))
 
 -- what the search finds can be split
-pub splittable : {M V : Type 0} (cells : List (Cell M V)) (n k rows base : ℕ) (stops : List Stop) → Roomy cells n (length stops) k → base ≡ behind_tables n (length stops) → base ≤ 4864 → rows < k → (r : Option ℕ) →
-    IfSome r (λ w. (w ≤ rows) × ((entry_in cells (base + w)).depth < length stops) × ((t : ℕ) → t < length stops → places_of (entry_in cells (base + w)).places t < n)) →
+pub splittable : {M V : Type 0} (cells : List (Cell M V)) (n k rows base : ℕ) (stops : List Stop) → needed n (length stops) k ≤ length cells → base ≡ behind_tables n (length stops) → rows < k → (r : Option ℕ) →
+    IfSome r (λ w. (w ≤ rows) × Placed n (length stops) (entry_in cells (base + w))) →
     IfSome r (λ w. Givable cells n stops (behind_tables n (length stops)) k rows w)
-splittable cells n k rows base stops roomy is low row None h = tt
-splittable cells n k rows base stops roomy is low row (Some w) h = let room = roomy.room in let head = h.0 in record {
+splittable cells n k rows base stops room is row None h = tt
+splittable cells n k rows base stops room is row (Some w) h = let head = h.0 in record {
   head = h.0;
   split = record {
-    ready = record { few = roomy.few; room = omega arith };
-    behind = omega arith;
-    low = omega arith;
-    most = roomy.most;
     room = room;
     row = row;
     used = omega arith;
-    deep = subst (λ (b : ℕ). (entry_in cells (b + w)).depth < length stops) is h.1;
-    placed = subst (λ (b : ℕ). (t : ℕ) → t < length stops → places_of (entry_in cells (b + w)).places t < n) is h.2;
+    placed = subst (λ (b : ℕ). Placed n (length stops) (entry_in cells (b + w))) is h.1;
   };
 }
 
@@ -142,7 +137,7 @@ room_there cells n n' j j' b k k' p q r s one room =
 pub record AllWait {M V : Type 0} (meaning : MeasureMeaning V) (n : ℕ) (j : Job) (base k : ℕ) (old new : List (Cell M V)) : Type 0 where
   pub kept : Kept base old new
   pub used : Rows new base n (length (stops_of j)) k 0
-  pub tables : (τ : Task (Option V)) (H : ℕ → ℕ → Option V) → Tables meaning old n (stops_of j) τ H → Tables meaning new n (stops_of j) τ H
+  pub tables : TablesKept meaning n (stops_of j) old new
   pub stands : (τ : Task (Option V)) (H : ℕ → ℕ → Option V) → Tables meaning old n (stops_of j) τ H → Partition (optional meaning) τ H [] (k * length (stops_of j)) (waiting_in new base)
 
 -- where the waiting subspaces stand behind the tables, all plans of the job over the street wait
@@ -157,18 +152,17 @@ waits meaning n n' j j' b k k' old new p q r s all = let h = moved Job (λ x i c
 
 -- r is the head that the search over the entries from cell `base` on finds
 pub record HeadFound {M V : Type 0} (meaning : MeasureMeaning V) (cells : List (Cell M V)) (base m k : ℕ) (r : Option ℕ) : Type 0 where
-  pub low : base ≤ 4864
   pub some : IfSome r (λ w. (w < k) × ((entry_in cells (base + w)).score ≡ None → ⊥))
-  pub ready : (n rows : ℕ) → Rows cells base n m k rows → IfSome r (λ w. (w ≤ rows) × ((entry_in cells (base + w)).depth < m) × ((t : ℕ) → t < m → places_of (entry_in cells (base + w)).places t < n))
+  pub ready : (n rows : ℕ) → Rows cells base n m k rows → IfSome r (λ w. (w ≤ rows) × Placed n m (entry_in cells (base + w)))
   pub plan : HeadPlan meaning cells base m k r
 
 -- where the entries stand behind the tables, it has the first plan of the street that is not given
-pub looked : {M V : Type 0} (meaning : MeasureMeaning V) (laws : Laws meaning.nought meaning.joined meaning.before) (j : Job) (n k : ℕ) (cells : List (Cell M V)) → Roomy cells n (length (stops_of j)) k → (b m k' : ℕ) →
+pub looked : {M V : Type 0} (meaning : MeasureMeaning V) (laws : Laws meaning.nought meaning.joined meaning.before) (j : Job) (n k : ℕ) (cells : List (Cell M V)) → needed n (length (stops_of j)) k ≤ length cells → (b m k' : ℕ) →
     b ≡ behind_tables n (length (stops_of j)) → m ≡ length (stops_of j) → k' ≡ k → (r : Option ℕ) → HeadFound meaning cells b m k' r → Looked meaning (stops_of j) n k cells r
-looked meaning laws j n k cells roomy b m k' p q s r found-head =
+looked meaning laws j n k cells room b m k' p q s r found-head =
     let h = moved ℕ (λ _ x c y. HeadFound meaning cells c x y r) 0 0 m (length (stops_of j)) b (behind_tables n (length (stops_of j))) k' k refl q p s found-head in record {
       some = h.some;
-      ready = λ rows row used. splittable cells n k rows (behind_tables n (length (stops_of j))) (stops_of j) roomy refl h.low row r (h.ready n rows used);
+      ready = λ rows row used. splittable cells n k rows (behind_tables n (length (stops_of j))) (stops_of j) room refl row r (h.ready n rows used);
       plan = λ street given s. let τ = task_of meaning street (job_meaning (stops_of j)) in
           found meaning laws street j n k given cells (behind_tables n (length (stops_of j))) s r
           (λ w. Chosen (optional meaning) (task_of meaning street (job_meaning (stops_of j))) (k * length (stops_of j)) (waiting_in cells (behind_tables n (length (stops_of j)))) w)

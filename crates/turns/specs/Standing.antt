@@ -1,5 +1,5 @@
 -- Cells from which the plans of a job over a street can be given in turn.
-use Rattle.std.specs.Prelude.{◌≡◌, ℕ, ◌+◌, ◌*◌, ◌<◌, ◌≤◌, List, [], ◌∷◌, length, IfSome, Some, None, Option, MatchOption, ◌≢◌}
+use Rattle.std.specs.Prelude.{◌≡◌, ℕ, ◌+◌, ◌*◌, ◌<◌, List, [], ◌∷◌, length, IfSome, Some, None, Option, MatchOption, ◌≢◌}
 use Rattle.measures.specs.Meaning.{MeasureMeaning}
 use Rattle.streets.specs.Meaning.{StreetMeaning, Sound}
 use Rattle.jobs.specs.declared.stops.Stop.{Stop}
@@ -24,13 +24,6 @@ behind_tables n m = n * n + m * n
 -- how many cells n places, m stops and k plans need: the tables, and the waiting subspaces behind them
 abbrev pub needed : ℕ → ℕ → ℕ → ℕ
 needed n m k = behind_tables n m + k * m
-
--- there are at most 64 places, 1 to 256 plans are wanted, and there are cells enough for n places, m stops and k plans
-pub record Roomy {M V : Type 0} (cells : List (Cell M V)) (n m k : ℕ) : Type 0 where
-  pub few : n ≤ 64
-  pub some : 1 ≤ k
-  pub most : k ≤ 256
-  pub room : needed n m k ≤ length cells
 
 -- the cells hold a sound street of n places, and the tables of the job over it: own values, links and subtree minima
 pub record Tabled {M V : Type 0} (meaning : MeasureMeaning V) (street : StreetMeaning) (stops : List Stop) (n : ℕ) (cells : List (Cell M V)) : Type 0 where

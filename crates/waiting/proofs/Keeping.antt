@@ -1,13 +1,13 @@
 -- A cell behind the tables changes nothing in them.
-use Rattle.std.proofs.Common.{◌≡◌, ℕ, ◌+◌, ◌*◌, ◌<◌, ◌≤◌, Bool, true, false, ◌&&◌, ◌||◌, List, length, get_or, Option, refl, ap, ◌∙◌, ap₂, arith}
+use Rattle.std.proofs.Common.{◌≡◌, ℕ, ◌+◌, ◌*◌, ◌<◌, ◌≤◌, Bool, true, false, ◌&&◌, ◌||◌, List, length, get_or, refl, ap, ◌∙◌, ap₂, arith}
 use Rattle.std.proofs.lemmas.Nat.{mul-add-lt}
 use Rattle.measures.specs.Meaning.{MeasureMeaning}
 use Rattle.jobs.specs.declared.stops.Stop.{Stop}
 use Rattle.jobs.specs.Trees.{tie_in}
-use Rattle.trees.specs.Tasks.{Task}
 use Rattle.cells.specs.declared.cell.Cell.{Cell}
 use Rattle.tables.specs.Tables.{blank, leg_in, ride_in, own_in, hang_in, entry_in, Kept}
-use Rattle.minima.specs.Tables.{by_tie, link_in, Tables}
+use Rattle.minima.specs.Tables.{by_tie, link_in}
+use Rattle.waiting.specs.Queues.{TablesKept}
 
 module _ {M V : Type 0} (old new : List (Cell M V)) (n k : ℕ) (stops : List Stop) (behind : n * n + length stops * n ≤ k) (kept : Kept k old new) where
   own_kept : (s q : ℕ) → s < length stops → q < n → own_in new n s q ≡ own_in old n s q
@@ -22,7 +22,7 @@ module _ {M V : Type 0} (old new : List (Cell M V)) (n k : ℕ) (stops : List St
   unfolding leg_in ride_in
   link_kept s p q h l = let x = mul-add-lt p n q n h l in ap₂ (by_tie (tie_in stops s)) (ap (λ (c : Cell M V). c.leg) (kept (p * n + q) (omega arith))) (ap (λ (c : Cell M V). c.ride) (kept (p * n + q) (omega arith)))
 
-  pub tables_kept : (meaning : MeasureMeaning V) (τ : Task (Option V)) (H : ℕ → ℕ → Option V) → Tables meaning old n stops τ H → Tables meaning new n stops τ H
+  pub tables_kept : (meaning : MeasureMeaning V) → TablesKept meaning n stops old new
   tables_kept meaning τ H tables = record {
     holds = record {
       count = tables.holds.count;

@@ -17,7 +17,7 @@ use Rattle.cells.specs.declared.cell.Entry.{Entry}
 use Rattle.cells.specs.Cells.{places_of, entry_before}
 use Rattle.tables.specs.Tables.{blank, entry_in}
 use Rattle.minima.specs.Tables.{Tables}
-use Rattle.waiting.specs.Queues.{waiting_in, row_start, Queue, FirstWaiting, NextPlan}
+use Rattle.waiting.specs.Queues.{waiting_in, row_start, Placed, Queue, FirstWaiting, NextPlan}
 
 module _ {M V : Type 0} (cells : List (Cell M V)) (before : V → V → Bool) (from to : ℕ) (le : from ≤ to) (fits : to ≤ length cells) where
   long : length (take (to - from) (drop from cells)) ≡ to - from
@@ -64,9 +64,9 @@ module _ {M V : Type 0} (meaning : MeasureMeaning V) (laws : Laws meaning.nought
 
 -- an entry with a plan stands in a row in use, and can be split
 pub in_use : {M V : Type 0} (cells : List (Cell M V)) (base n m k rows w : ℕ) → Queue cells base n m k rows → w < k * m → ((entry_in cells (base + w)).score ≡ None → ⊥) →
-    (w < row_start m k rows) × ((entry_in cells (base + w)).depth < m) × ((t : ℕ) → t < m → places_of (entry_in cells (base + w)).places t < n)
+    (w < row_start m k rows) × Placed n m (entry_in cells (base + w))
 in_use cells base n m k rows w queue l some = let s = queue.safe w l some in
-    (⊎_elim (λ h. h) (λ h. absurd (let d = queue.free w h l in let e = s.0 in omega arith)) (cases_lt w (row_start m k rows)), s.0, s.1)
+    (⊎_elim (λ h. h) (λ h. absurd (let d = queue.free w h l in let e = s.0 in omega arith)) (cases_lt w (row_start m k rows)), s)
 
 -- the entry in which the first plan waits has a plan, is in use and can be split
 module _ {M V : Type 0} (meaning : MeasureMeaning V) (cells : List (Cell M V)) (base m k : ℕ) where
@@ -75,7 +75,7 @@ module _ {M V : Type 0} (meaning : MeasureMeaning V) (cells : List (Cell M V)) (
   some_next (Some w) f = (f.some.0, f.some.1)
 
   pub ready_next : (n rows : ℕ) (r : Option ℕ) → FirstWaiting meaning cells base (k * m) r → Queue cells base n m k rows →
-      IfSome r (λ w. (w < row_start m k rows) × ((entry_in cells (base + w)).depth < m) × ((t : ℕ) → t < m → places_of (entry_in cells (base + w)).places t < n))
+      IfSome r (λ w. (w < row_start m k rows) × Placed n m (entry_in cells (base + w)))
   ready_next n rows None f queue = tt
   ready_next n rows (Some w) f queue = in_use cells base n m k rows w queue f.some.0 f.some.1
 

@@ -3,3 +3,4 @@ pub mod Leasts
 pub mod Stepping
 pub mod Starting
 pub mod Splitting
+pub mod Parting

@@ -8,14 +8,14 @@ use Rattle.sets.specs.Sets.{has_bit}
 use Rattle.sets.specs.Placements.{Same}
 use Rattle.jobs.specs.declared.stops.Stop.{Stop}
 use Rattle.trees.specs.Tasks.{Task}
-use Rattle.trees.specs.Subspaces.{Subspace}
+use Rattle.trees.specs.Subspaces.{Subspace, First}
 use Rattle.trees.specs.Rounds.{Partition, Chosen, FirstLeft, NoneLeft}
 use Rattle.cells.specs.declared.cell.Cell.{Cell}
 use Rattle.cells.specs.declared.cell.Entry.{Entry}
 use Rattle.cells.specs.Cells.{places_of, space_of, entry_before}
 use Rattle.cells.specs.declared.places.Places.{Places}
 use Rattle.tables.specs.Tables.{entry_in, Kept}
-use Rattle.minima.specs.Tables.{Ready, Tables}
+use Rattle.minima.specs.Tables.{Tables}
 
 -- the waiting subspaces, counted from the first head on
 abbrev pub waiting_in : {M V : Type 0} → List (Cell M V) → ℕ → ℕ → Subspace (Option V)
@@ -31,9 +31,21 @@ pub record Part {V : Type 0} (from : Places) (t : ℕ) (e : Entry V) : Type 0 wh
   pub same : Same t (places_of from) (places_of e.places)
   pub excluded : (r : ℕ) → has_bit e.excluded.bits r ≡ (r == places_of from t)
 
+-- where the cells hold a task and its minima, the entry has the first plan of its subspace
+abbrev pub FirstOver : {M V : Type 0} → MeasureMeaning V → List (Cell M V) → ℕ → List Stop → Entry V → Type 0
+FirstOver {M} {V} meaning cells n stops e = (τ : Task (Option V)) (H : ℕ → ℕ → Option V) → Tables meaning cells n stops τ H → First (optional meaning) τ H (space_of e)
+
+-- the new cells hold each task and its minima that the old ones held
+abbrev pub TablesKept : {M V : Type 0} → MeasureMeaning V → ℕ → List Stop → List (Cell M V) → List (Cell M V) → Type 0
+TablesKept {M} {V} meaning n stops old new = (τ : Task (Option V)) (H : ℕ → ℕ → Option V) → Tables meaning old n stops τ H → Tables meaning new n stops τ H
+
+-- the entry's depth is a stop, and it has a place at each stop
+abbrev pub Placed : {V : Type 0} → ℕ → ℕ → Entry V → Type 0
+Placed n m e = (e.depth < m) × ((t : ℕ) → t < m → places_of e.places t < n)
+
 -- an entry with a plan has that plan's places, and its depth is a stop
 abbrev pub Safe : {V : Type 0} → ℕ → ℕ → Entry V → Type 0
-Safe n m e = (e.score ≢ None) → (e.depth < m) × ((t : ℕ) → t < m → places_of e.places t < n)
+Safe n m e = (e.score ≢ None) → Placed n m e
 
 -- the first `rows` rows are in use, and every entry behind them is empty
 pub record Queue {M V : Type 0} (cells : List (Cell M V)) (base n m k rows : ℕ) : Type 0 where
@@ -48,25 +60,19 @@ FreeHeads cells base m k rows = (v : ℕ) → 0 < v → rows ≤ v → v < k →
 abbrev pub NoSpace : {V : Type 0} → ℕ → Entry V → Type 0
 NoSpace m e = (e.score ≡ None) × (e.depth ≡ m)
 
--- entry w is in use and has a plan, and row `rows` is there for the parts behind its depth; the entries stand behind the
--- tables, and there are cells for all of them
+-- entry w is in use and has a plan, row `rows` is there for the parts behind its depth, and there are cells for all entries
 pub record Splittable {M V : Type 0} (cells : List (Cell M V)) (n : ℕ) (stops : List Stop) (base k rows w : ℕ) : Type 0 where
-  pub ready : Ready cells n stops
-  pub behind : n * n + length stops * n ≤ base
-  pub low : base ≤ 4864
-  pub most : k ≤ 256
   pub room : base + k * length stops ≤ length cells
   pub row : rows < k
   pub used : w < row_start (length stops) k rows
-  pub deep : (entry_in cells (base + w)).depth < length stops
-  pub placed : (t : ℕ) → t < length stops → places_of (entry_in cells (base + w)).places t < n
+  pub placed : Placed n (length stops) (entry_in cells (base + w))
 
 -- the plan of entry w is given, which brings row `rows` into use: the tables and the other entries stay as they were, and
 -- where every plan not given waited, every other one waits on
 pub record SplitOff {M V : Type 0} (meaning : MeasureMeaning V) (stops : List Stop) (n base k rows w : ℕ) (old new : List (Cell M V)) : Type 0 where
   pub kept : Kept base old new
   pub others : (v : ℕ) → (v ≢ w) → (v < row_start (length stops) k rows) ⊎ (row_start (length stops) k (rows + 1) ≤ v) → entry_in new (base + v) ≡ entry_in old (base + v)
-  pub tables : (τ : Task (Option V)) (H : ℕ → ℕ → Option V) → Tables meaning old n stops τ H → Tables meaning new n stops τ H
+  pub tables : TablesKept meaning n stops old new
   pub queue : Queue old base n (length stops) k rows → Queue new base n (length stops) k (rows + 1)
   pub heads : FreeHeads old base (length stops) k rows → FreeHeads new base (length stops) k (rows + 1)
   pub stands : (τ : Task (Option V)) (H : ℕ → ℕ → Option V) (given : List (ℕ → ℕ)) → Tables meaning old n stops τ H → Queue old base n (length stops) k rows →

@@ -5,7 +5,7 @@ ghost use Rattle.trees.specs.Tasks.{Task};
 ghost use Rattle.trees.specs.Rounds.{Partition};
 ghost use Rattle.tables.specs.Tables.{entry_in, Kept};
 ghost use Rattle.minima.specs.Tables.{Tables};
-ghost use Rattle.waiting.specs.Queues.{waiting_in, NoSpace, Queue, FreeHeads};
+ghost use Rattle.waiting.specs.Queues.{waiting_in, TablesKept, NoSpace, Queue, FreeHeads};
 
 use crate::queue::Waiting;
 use bounds::prefixes::Prefix;
@@ -34,7 +34,7 @@ impl<'a> Waiting<'a> {
     pub fn let_all_wait<M: Measure>(&self, cells: &mut [Cell<M, M::Value>])
         requires { let o = self.now in (1 ≤ o.k) × (o.base + o.k * length (stops_of o.job.now) ≤ length cells.old) }
         ensures kept { Kept self.now.base cells.old cells.new }
-        ensures tables { let o = self.now in (τ : Task (Option M.Value)) (H : ℕ → ℕ → Option M.Value) → Tables M.Measure.meaning cells.old o.n (stops_of o.job.now) τ H → Tables M.Measure.meaning cells.new o.n (stops_of o.job.now) τ H }
+        ensures tables { let o = self.now in TablesKept M.Measure.meaning o.n (stops_of o.job.now) cells.old cells.new }
         ensures queue { let o = self.now in Queue cells.new o.base o.n (length (stops_of o.job.now)) o.k 0 }
         ensures heads { let o = self.now in FreeHeads cells.new o.base (length (stops_of o.job.now)) o.k 0 }
         ensures stands { let o = self.now in (τ : Task (Option M.Value)) (H : ℕ → ℕ → Option M.Value) → Tables M.Measure.meaning cells.old o.n (stops_of o.job.now) τ H →

@@ -1,8 +1,8 @@
 ghost use Rattle.std.specs.Prelude.{◌≡◌, ℕ, ◌+◌, ◌*◌, ◌<◌, ◌≤◌, true, length, IfSome, None, MatchOption, ◌≢◌};
 ghost use Rattle.measures.specs.Laws.{Laws};
-ghost use Rattle.cells.specs.Cells.{places_of, entry_before};
+ghost use Rattle.cells.specs.Cells.{entry_before};
 ghost use Rattle.tables.specs.Tables.{entry_in};
-ghost use Rattle.waiting.specs.Queues.{row_start, Queue, FirstWaiting, NextPlan};
+ghost use Rattle.waiting.specs.Queues.{row_start, Placed, Queue, FirstWaiting, NextPlan};
 
 use crate::queue::Entries;
 use cells::cell::Cell;
@@ -54,8 +54,7 @@ impl Entries {
         M::Value: 'a,
         requires { let e = self.now in e.base + e.k * e.m ≤ length cells.now }
         ensures some { let e = self.now in IfSome result (λ w. (w < e.k * e.m) × ((entry_in cells.now (e.base + w)).score ≢ None)) }
-        ensures ready { let e = self.now in (n rows : ℕ) → Queue cells.now e.base n e.m e.k rows → IfSome result (λ w. (w < row_start e.m e.k rows)
-            × ((entry_in cells.now (e.base + w)).depth < e.m) × ((t : ℕ) → t < e.m → places_of (entry_in cells.now (e.base + w)).places t < n)) }
+        ensures ready { let e = self.now in (n rows : ℕ) → Queue cells.now e.base n e.m e.k rows → IfSome result (λ w. (w < row_start e.m e.k rows) × Placed n e.m (entry_in cells.now (e.base + w))) }
         ensures plan { let e = self.now in NextPlan M.Measure.meaning cells.now e.base e.m e.k result }
     {
         first_in::<M>(cells, self.base, self.k * self.m)

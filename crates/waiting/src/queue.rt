@@ -6,8 +6,8 @@ use crate::parts::{part_at, split_rest};
 use cells::cell::Cell;
 use jobs::job::Job;
 use measures::Measure;
-use minima::board::Board;
-use tables::access::{cell_at, set_entry};
+use minima::board::BoardMut;
+use tables::access::cell_at;
 
 // Where the waiting subspaces of k plans stand, for m stops: k x m entries from cell `base` on, first the heads of the rows.
 #[derive(Clone, Copy)]
@@ -63,15 +63,12 @@ impl<'a> Waiting<'a> {
         requires { let o = self.now in Splittable cells.old o.n (stops_of o.job.now) o.base o.k rows w }
         ensures { let o = self.now in SplitOff M.Measure.meaning (stops_of o.job.now) o.n o.base o.k rows w cells.old cells.new }
     {
-        let old = cell_at(cells, self.base + w).entry;
-        let board = Board {
-            cells,
-            n: self.n,
-            job: self.job,
-        };
-        let here = part_at::<M>(&board, &old.places, old.depth, old.excluded);
-        set_entry(cells, self.base + w, here);
+        let at = self.base + w;
+        let old = cell_at(cells, at).entry;
+        let mut board = BoardMut::new(cells, self.n, self.job);
+        let here = part_at::<M>(&board.board(), &old.places, old.depth, old.excluded);
+        board.set_entry(at, here);
         let start = self.entries().behind(rows);
-        split_rest::<M>(cells, self.n, self.job, start, &old.places, old.depth);
+        split_rest::<M>(&mut board, start, &old);
     }
 }

@@ -1,7 +1,7 @@
-use Rattle.std.proofs.Common.{◌≡◌, ℕ, ◌+◌, ◌<◌, length, sym, subst, arith}
+use Rattle.std.proofs.Common.{◌≡◌, ℕ, ◌+◌, length, sym, subst, arith}
 use Rattle.jobs.specs.Jobs.{stops_of}
-use Rattle.cells.specs.Cells.{places_of}
 use Rattle.tables.specs.Tables.{entry_in}
+use Rattle.waiting.specs.Queues.{Placed}
 use Rattle.leaders.specs.Leaders.{Rows}
 use Rattle.search_tests.proofs.enumerate.Goals as goal
 
@@ -14,19 +14,14 @@ pub advance-requires : goal.advance-requires
 advance-requires g c = let three = c.requires.0 in let e = c.entries-entries.ensures in
     let found = c.in-Some.ensures.ready 3 c.loop-given.given
     (moved (λ b m k. Rows c.loop-given.cells b 3 m k c.loop-given.given) 18 c.entries-entries.result.base (length (stops_of c.args.job.now)) c.entries-entries.result.m 28 c.entries-entries.result.k (sym e.0) (sym e.1) (sym e.2) c.loop-given.invariant) in
-    let there = moved (λ b m k. ((entry_in c.loop-given.cells (b + c.in-Some.w)).depth < m) × ((t : ℕ) → t < m → places_of (entry_in c.loop-given.cells (b + c.in-Some.w)).places t < 3))
-    c.entries-entries.result.base 18 c.entries-entries.result.m (length (stops_of c.args.job.now)) c.entries-entries.result.k 28 e.0 e.1 e.2 (found.1, found.2) in
+    let there = moved (λ b m _. Placed 3 m (entry_in c.loop-given.cells (b + c.in-Some.w)))
+    c.entries-entries.result.base 18 c.entries-entries.result.m (length (stops_of c.args.job.now)) c.entries-entries.result.k 28 e.0 e.1 e.2 found.1 in
     let head = found.0 in record {
       head = found.0;
       split = record {
-        ready = record { few = omega arith; room = omega arith };
-        behind = omega arith;
-        low = omega arith;
-        most = omega arith;
         room = omega arith;
         row = omega arith;
         used = omega arith;
-        deep = there.0;
-        placed = there.1;
+        placed = there;
       };
     }

@@ -2,33 +2,36 @@ use Rattle.std.proofs.Common.{◌≡◌, ℕ, ◌+◌, sym, subst, arith, rules}
 use Rattle.std.specs.Iterator.Adapters.{enumerate_count}
 use Rattle.jobs.specs.Jobs.{stops_of}
 use Rattle.tables.specs.Tables.{EntryWritten}
-use Rattle.waiting.proofs.Splitting.{SplitTo, PartFor, split_more}
+use Rattle.minima.proofs.Filling.{same_both}
+use Rattle.waiting.proofs.Splitting.{SplitTo, PartFor, board_more}
 use Rattle.waiting.proofs.parts.split_rest.Goals as goal
 
 pub loop-u-preserved : goal.loop-u-preserved
-loop-u-preserved g c = let step = c.in-Some.ensures.steps in let m = g.M.Measure.meaning in
-    let stop : c.in-Some.t ≡ c.args.depth + 1 + enumerate_count c.loop-u.u-iterator = omega arith in
-    let part : PartFor m c.loop-u.cells c.args.n (stops_of c.args.job.now) c.args.from.now (c.args.depth + 1 + enumerate_count c.loop-u.u-iterator) c.part_at-part.result =
-    subst (λ (t : ℕ). PartFor m c.loop-u.cells c.args.n (stops_of c.args.job.now) c.args.from.now t c.part_at-part.result) stop record {
+loop-u-preserved g c = let step = c.in-Some.ensures.steps in let m = g.M.Measure.meaning in let o = c.args.board.now in let old = c.args.old.now in let b = c.board.result in
+    let stop : c.in-Some.t ≡ old.depth + 1 + enumerate_count c.loop-u.u-iterator = omega arith in
+    let part : PartFor m b.cells.now b.n (stops_of b.job.now) old.places (old.depth + 1 + enumerate_count c.loop-u.u-iterator) c.part_at-part.result =
+    subst (λ (t : ℕ). PartFor m b.cells.now b.n (stops_of b.job.now) old.places t c.part_at-part.result) stop record {
       part = record { depth = c.part_at-part.ensures.kept.0; same = c.part_at-part.ensures.kept.1; excluded = λ r. grind (arith, c.part_at-part.ensures.excluded r, c.empty.ensures.none r) };
       safe = c.part_at-part.ensures.safe;
       first = c.part_at-part.ensures.first;
     } in
-    let put : EntryWritten (c.args.at + enumerate_count c.loop-u.u-iterator) c.part_at-part.result c.loop-u.cells c.set_entry.new.cells =
-    subst (λ (u : ℕ). EntryWritten (c.args.at + u) c.part_at-part.result c.loop-u.cells c.set_entry.new.cells) step.1 c.set_entry.ensures in (
+    let put : EntryWritten (c.args.at + enumerate_count c.loop-u.u-iterator) c.part_at-part.result c.loop-u.board.cells.now c.set_entry.new.self.cells.now =
+    subst (λ (u : ℕ). EntryWritten (c.args.at + u) c.part_at-part.result c.loop-u.board.cells.now c.set_entry.new.self.cells.now) step.1 c.set_entry.ensures.written in (
       (tt, tt, search rules),
       tt,
       omega arith,
       omega arith,
       omega arith,
-      subst (λ (x : ℕ). SplitTo m c.args.cells.now c.args.n (stops_of c.args.job.now) c.args.from.now c.args.depth c.args.at x c.set_entry.new.cells) (sym step.2)
-          (split_more m c.args.cells.now c.loop-u.cells c.set_entry.new.cells c.args.n (stops_of c.args.job.now) c.args.from.now c.args.depth c.args.at (enumerate_count c.loop-u.u-iterator) c.part_at-part.result c.requires.3 c.loop-u.invariant.5 part put),
+      same_both _ _ _ c.loop-u.invariant.5 c.set_entry.ensures.same,
+      subst (λ (x : ℕ). SplitTo m o.cells.now o.n (stops_of o.job.now) old.places old.depth c.args.at x c.set_entry.new.self.cells.now) (sym step.2)
+          (board_more m o c.loop-u.board c.set_entry.new.self b old.places old.depth c.args.at (enumerate_count c.loop-u.u-iterator) c.part_at-part.result c.requires.1 c.board.ensures c.loop-u.invariant.5 c.loop-u.invariant.6 part put),
     )
 
 pub returns : goal.returns
-returns g c = let end = c.in-None.ensures.steps in let k = c.loop-u.invariant.5 in record {
+returns g c = let end = c.in-None.ensures.steps in let k = c.loop-u.invariant.6 in record {
+  same = c.loop-u.invariant.5;
   before = k.before;
   behind = λ i l. k.behind i (omega (arith, end));
   parts = λ u l. k.parts u (omega (arith, end));
-  firsts = λ τ H tables u l. k.firsts τ H tables u (omega (arith, end));
+  firsts = λ u l. k.firsts u (omega (arith, end));
 }

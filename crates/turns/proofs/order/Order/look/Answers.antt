@@ -7,6 +7,6 @@ use Rattle.turns.proofs.order.Order.look.Goals as goal
 pub returns : goal.returns
 returns g c = let o = c.waiting.ensures in let e = c.entries.ensures in let all = c.find_head.ensures in
     looked g.M.Measure.meaning g.met.M.Measure.lawful.laws c.args.self.now.job.now c.args.self.now.n c.args.self.now.k c.args.cells.now
-    record { few = c.args.self.now.few; some = c.args.self.now.some; most = c.args.self.now.most; room = c.requires }
+    c.requires
     c.entries.result.base c.entries.result.m c.entries.result.k (e.0 ∙ o.2) (e.1 ∙ ap (λ (j : Job). length (stops_of j)) o.1) (e.2 ∙ o.3) c.find_head.result
-    record { low = c.entries.result.low; some = all.some; ready = all.ready; plan = all.plan }
+    record { some = all.some; ready = all.ready; plan = all.plan }
