@@ -216,15 +216,15 @@ fn print_end(rt: &HostRuntime, given: usize, more: bool) -> io::Result<()> {
 
 // The plans of an order, which wait in lent cells behind the tables.
 #[derive(Drop)]
-struct PlansMut<'a, 'j, M, V> {
+struct PlansMut<'a, M, V> {
     cells: &'a mut [Cell<M, V>],
-    order: Order<'j>,
+    order: Order<'a>,
     ghost room: { needed order.n (length (stops_of order.job.now)) order.k ≤ length cells.now },
 }
 
-impl<'a, 'j, M: Measure> PlansMut<'a, 'j, M, M::Value> {
+impl<'a, M: Measure> PlansMut<'a, M, M::Value> {
     // The plans of an order in these cells.
-    fn new(cells: &'a mut [Cell<M, M::Value>], order: Order<'j>) -> PlansMut<'a, 'j, M, M::Value>
+    fn new(cells: &'a mut [Cell<M, M::Value>], order: Order<'a>) -> PlansMut<'a, M, M::Value>
         requires { needed order.n (length (stops_of order.job.now)) order.k ≤ length cells.old }
     {
         PlansMut { cells, order }
