@@ -176,9 +176,7 @@ fn enumerate<M: Measure>(cells: &mut [Cell<M, M::Value>; CELLS], job: &Job) -> R
         if rank::<M>(cells, job, &plan) != Some(given) {
             return Err(Wrong::Turn);
         }
-        let Some(v) = entries.find_next::<M>(cells) else {
-            return Err(Wrong::Turn);
-        };
+        let v = entries.find_next::<M>(cells).ok_or(Wrong::Turn)?;
         if cell_at(cells, BASE + v).entry.places != plan.places {
             return Err(Wrong::Turn);
         }
