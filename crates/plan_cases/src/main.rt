@@ -126,13 +126,13 @@ fn tie_of(parent: &str, link: &str) -> anyhow::Result<Option<Tie>> {
     Ok(Some(Tie { parent, link }))
 }
 
-// The stop that the next three words tell, none where no word is left.
+// The stop that the next three words tell, none where no word is left; a second and third word that are missing are empty.
 fn read_stop(words: &mut SplitTerminator<'_, char>) -> anyhow::Result<Option<Stop>> {
     let Some(kind) = words.next() else {
         return Ok(None);
     };
-    let parent = next_word(words)?;
-    let link = next_word(words)?;
+    let parent = words.next().unwrap_or("");
+    let link = words.next().unwrap_or("");
     let kind = kind.parse::<u8>()?;
     let tie = tie_of(parent, link)?;
     Ok(Some(Stop { kind, tie }))

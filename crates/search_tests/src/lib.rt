@@ -1,7 +1,7 @@
 // The first plan and the whole enumeration over random small tables, compared with all placements laid out.
 #![tactic(auto)]
 
-ghost use Rattle.std.specs.Prelude.{◌≡◌, length};
+ghost use Rattle.std.specs.Prelude.{◌≡◌, ◌<◌, length};
 ghost use Rattle.jobs.specs.Jobs.{stops_of};
 ghost use Rattle.leaders.specs.Leaders.{Rows};
 
@@ -9,6 +9,7 @@ use cells::cell::{Cell, Entry};
 use cells::order::entry_at_or_before;
 use cells::places::Places;
 use jobs::job::Job;
+use jobs::stops::Refused;
 use leaders::advancing::advance;
 use leaders::rows::find_head;
 use measures::Measure;
@@ -43,6 +44,13 @@ enum Wrong {
     Count,
 }
 
+// The tests take three stops that make a tree, which are not refused.
+impl From<Refused> for Wrong {
+    fn from(_refused: Refused) -> Wrong {
+        Wrong::Setting
+    }
+}
+
 // The next number of a small generator.
 fn next(x: u64) -> u64 {
     let a = x ^ (x << 13);
@@ -50,13 +58,15 @@ fn next(x: u64) -> u64 {
     b ^ (b << 17)
 }
 
+// The value of a leg with a climb and a time below 3.
+fn small_value<M: Measure>(x: u64) -> M::Value {
+    // the check proves that both fit, so a try_from would have an error that never comes
+    M::leg((x / 8 % 3) as u16, (x / 64 % 3) as u16)
+}
+
 // One of few values, or none: so there are many ties.
 fn some_value<M: Measure>(x: u64) -> Option<M::Value> {
-    if x % 5 == 0 {
-        None
-    } else {
-        Some(M::leg((x / 8 % 3) as u16, (x / 64 % 3) as u16))
-    }
+    (x % 5 != 0).then(|| small_value::<M>(x))
 }
 
 // Fills all cells with random values.
@@ -70,6 +80,22 @@ fn fill<M: Measure>(cells: &mut [Cell<M, M::Value>], seed: u64) {
     }
 }
 
+// The own value of stop s at place q, joined with the value of its link from place p of its parent.
+fn hung_value<M: Measure>(
+    cells: &[Cell<M, M::Value>; CELLS],
+    job: &Job,
+    s: usize,
+    p: usize,
+    q: usize,
+) -> Option<M::Value>
+    requires { (s < STOPS) × (p < PLACES) × (q < PLACES) }
+{
+    join_options::<M>(
+        stop_at(cells, PLACES, STOPS, s, q).own,
+        link_at(cells, PLACES, job, s, p, q),
+    )
+}
+
 // The placement with this number, with its score joined from the tables.
 fn laid_out<M: Measure>(
     cells: &[Cell<M, M::Value>; CELLS],
@@ -81,16 +107,11 @@ fn laid_out<M: Measure>(
     let c = q % 3;
     let above = if job.parent(2) == 0 { a } else { b };
     let first = stop_at(cells, PLACES, STOPS, 0, a).own;
-    let second = join_options::<M>(
-        stop_at(cells, PLACES, STOPS, 1, b).own,
-        link_at(cells, PLACES, job, 1, a, b),
-    );
-    let third = join_options::<M>(
-        stop_at(cells, PLACES, STOPS, 2, c).own,
-        link_at(cells, PLACES, job, 2, above, c),
-    );
+    let second = hung_value::<M>(cells, job, 1, a, b);
+    let third = hung_value::<M>(cells, job, 2, above, c);
     let mut entry = Entry::without_plan(0);
     entry.score = join_options::<M>(first, join_options::<M>(second, third));
+    // each place is below 3, which the check proves, so a try_from would have an error that never comes
     entry.places = Places::zero()
         .with(0, a as u8)
         .with(1, b as u8)
@@ -126,17 +147,25 @@ fn rank<M: Measure>(
     Some(before)
 }
 
+// The plans of a job of three stops that wait, of which one more is wanted than there are placements.
+fn waiting_plans(job: &Job) -> Waiting<'_>
+    requires { length (stops_of job.now) ≡ STOPS }
+    ensures { (result.n ≡ PLACES) × (result.job.now ≡ job.now) × (result.base ≡ BASE) × (result.k ≡ WANTED) }
+{
+    Waiting {
+        n: PLACES,
+        job,
+        base: BASE,
+        k: WANTED,
+    }
+}
+
 // Gives the plans in turn: each has just as many plans before it as are given, and at the end all are given. The pick
 // among all entries finds the plan that the pick among the heads finds.
 fn enumerate<M: Measure>(cells: &mut [Cell<M, M::Value>; CELLS], job: &Job) -> Result<(), Wrong>
     requires { (length (stops_of job.now) ≡ STOPS) × Rows cells.old BASE PLACES (length (stops_of job.now)) WANTED 0 }
 {
-    let waiting = Waiting {
-        n: PLACES,
-        job,
-        base: BASE,
-        k: WANTED,
-    };
+    let waiting = waiting_plans(job);
     let entries = waiting.entries();
     for given in 0..WANTED {
         let Some(w) = find_head::<M>(cells, &entries) else {
@@ -147,9 +176,7 @@ fn enumerate<M: Measure>(cells: &mut [Cell<M, M::Value>; CELLS], job: &Job) -> R
         if rank::<M>(cells, job, &plan) != Some(given) {
             return Err(Wrong::Turn);
         }
-        let Some(v) = entries.find_next::<M>(cells) else {
-            return Err(Wrong::Turn);
-        };
+        let v = entries.find_next::<M>(cells).ok_or(Wrong::Turn)?;
         if cell_at(cells, BASE + v).entry.places != plan.places {
             return Err(Wrong::Turn);
         }
@@ -169,17 +196,13 @@ fn run<M: Measure>(
     }
     fill::<M>(cells, seed);
     BoardMut::new(cells, PLACES, job).fill_minima();
-    let waiting = Waiting {
-        n: PLACES,
-        job,
-        base: BASE,
-        k: WANTED,
-    };
+    let waiting = waiting_plans(job);
     waiting.let_all_wait::<M>(cells);
     enumerate::<M>(cells, job)
 }
 
-// Whether random tables have six plans or more, so that a comparison over them says something.
+// Whether random tables have six plans or more, so that a comparison over them says something. A table with fewer is not
+// wrong, so this is a bool.
 fn many_plans<M: Measure>(cells: &mut [Cell<M, M::Value>; CELLS], job: &Job, seed: u64) -> bool {
     fill::<M>(cells, seed);
     plans::<M>(cells, job) >= 6
@@ -203,18 +226,18 @@ mod tests {
     }
 
     // Three stops: the second hangs on the root, the third on the root or on the second.
-    fn tree(parent: u8, first: Link, second: Link) -> Option<Job> {
+    fn tree(parent: u8, first: Link, second: Link) -> Result<Job, Wrong> {
         let mut draft = Draft::new();
-        draft.push(Stop { kind: 0, tie: None }).ok()?;
-        draft.push(tied(0, first)).ok()?;
-        draft.push(tied(parent, second)).ok()?;
-        Job::try_from(draft).ok()
+        draft.push(Stop { kind: 0, tie: None })?;
+        draft.push(tied(0, first))?;
+        draft.push(tied(parent, second))?;
+        Ok(Job::try_from(draft)?)
     }
 
     // Forty tables for each of two trees.
     fn run_all<M: Measure>(cells: &mut [Cell<M, M::Value>; CELLS]) -> Result<(), Wrong> {
-        let chain = tree(1, Link::Direct, Link::Ride).ok_or(Wrong::Setting)?;
-        let fork = tree(0, Link::Ride, Link::Direct).ok_or(Wrong::Setting)?;
+        let chain = tree(1, Link::Direct, Link::Ride)?;
+        let fork = tree(0, Link::Ride, Link::Direct)?;
         for seed in 1..41 {
             run::<M>(cells, &chain, seed)?;
             run::<M>(cells, &fork, seed)?;
@@ -223,20 +246,21 @@ mod tests {
     }
 
     // In how many of forty tables there are many plans.
-    fn plentiful<M: Measure>(cells: &mut [Cell<M, M::Value>; CELLS]) -> Option<usize> {
+    fn plentiful<M: Measure>(cells: &mut [Cell<M, M::Value>; CELLS]) -> Result<usize, Wrong> {
         let chain = tree(1, Link::Direct, Link::Ride)?;
         let count = (1..41)
             .filter(|seed| many_plans::<M>(cells, &chain, *seed))
             .count();
-        Some(count)
+        Ok(count)
     }
 
     #[test]
     fn tables_have_plans(rt: HostRuntime) {
         let mut cells = [Cell::<Time, TimeValue>::blank(); CELLS];
-        assert!(rt; plentiful::<Time>(&mut cells) >= Some(10));
+        assert!(rt; matches!(plentiful::<Time>(&mut cells), Ok(10..)));
     }
 
+    // one test for each measure: a test takes no type parameter
     #[test]
     fn by_time(rt: HostRuntime) {
         let mut cells = [Cell::<Time, TimeValue>::blank(); CELLS];
