@@ -11,6 +11,7 @@ split : (o : Option (Bor LegRecord)) (r l : Option Leg) → r ≡ option_map (λ
 split None r l m N Q h f g = m ∙ sym (f h)
 split (Some x) r l m N Q h f g = m ∙ sym (g x h)
 
+-- last_none and last_some named at the function were tried: what `rfind` says counts from the end
 pub returns : goal.returns
 returns c =
     let rs = c.args.records.now in
