@@ -91,10 +91,7 @@ fn laid_out<M: Measure>(
     );
     let mut entry = Entry::without_plan(0);
     entry.score = join_options::<M>(first, join_options::<M>(second, third));
-    entry.places = Places::zero()
-        .with(0, a as u8)
-        .with(1, b as u8)
-        .with(2, c as u8);
+    entry.places = Places::from([a as u8, b as u8, c as u8, 0, 0, 0, 0, 0, 0, 0, 0, 0]);
     entry
 }
 
