@@ -1,5 +1,7 @@
 -- At the start all plans wait in one entry, and the others are empty.
-use Rattle.std.proofs.Common.{◌≡◌, ℕ, ◌+◌, ◌*◌, ◌<◌, ◌≤◌, false, List, [], get_or, Option, sym, ap, ◌∙◌, subst, ⊎_elim, arith}
+use Rattle.std.proofs.Common.{◌≡◌, ℕ, ◌+◌, ◌*◌, ◌<◌, ◌≤◌, false, List, [], length, get_or, set, take, drop, ◌++◌, ◌-◌, below_more, get_or-set_other, get_or-set_same, Option, sym, ap, ◌∙◌, subst, ⊎_elim, arith}
+use Rattle.std.proofs.lemmas.List.{get_or_append_left, get_or-append_right, get_or-take, length-append, length-take-le, length-drop}
+use borrow.Rule.Slice.PartMut.{mid_of, put_mid}
 use Rattle.std.proofs.lemmas.Nat.{mul-le}
 use Rattle.std.proofs.lemmas.Bool.{cases_lt, cases_eq}
 use Rattle.measures.specs.Laws.{Laws}
@@ -16,10 +18,51 @@ use Rattle.trees.proofs.Rounds.{start}
 use Rattle.cells.specs.declared.cell.Cell.{Cell}
 use Rattle.cells.specs.declared.cell.Entry.{Entry}
 use Rattle.cells.specs.Cells.{space_of}
-use Rattle.tables.specs.Tables.{blank, entry_in}
+use Rattle.tables.specs.Tables.{blank, entry_in, Kept}
 use Rattle.minima.specs.Tables.{Tables}
 use Rattle.waiting.specs.Queues.{waiting_in, NoSpace, Safe, Queue, FreeHeads}
 use Rattle.waiting.proofs.Keeping.{same_entry}
+
+-- one cell more is without a subspace
+pub cleared_more : {M V : Type 0} (m : ℕ) (cells : List (Cell M V)) (k : ℕ) (c : Cell M V) → k < length cells → NoSpace m c.entry → ((i : ℕ) → i < k → NoSpace m (entry_in cells i)) →
+    (i : ℕ) → i < k + 1 → NoSpace m (entry_in (set cells k c) i)
+unfolding entry_in
+cleared_more {M} {V} m cells k c h none before = below_more _ _
+    (λ i l. let ne : i ≡ k → ⊥ = omega arith in subst (λ (x : Cell M V). NoSpace m x.entry) (sym (get_or-set_other cells k i c blank ne)) (before i l))
+    (subst (λ (x : Cell M V). NoSpace m x.entry) (sym (get_or-set_same cells k c blank h)) none)
+
+-- k x m cells from cell `base` on are without a subspace, and those before them are as they were
+pub record Cleared {M V : Type 0} (m base k : ℕ) (old mid : List (Cell M V)) : Type 0 where
+  pub kept : Kept base old mid
+  pub empty : (i : ℕ) → base ≤ i → i < base + k * m → NoSpace m (entry_in mid i)
+  pub room : length mid ≡ length old
+
+-- so it is where they are written as a part of the cells
+part_cleared : {M V : Type 0} (m base k n : ℕ) (old part : List (Cell M V)) → n ≡ k * m → base + n ≤ length old → length part ≡ length (mid_of base n old) → ((i : ℕ) → i < length part → NoSpace m (entry_in part i)) →
+    Cleared m base k old (put_mid base n old part)
+unfolding entry_in
+part_cleared {M} {V} m base k n old part is fits same none = record {
+  kept = λ i l. get_or_append_left (take base old) _ blank i (omega (arith, front)) ∙ get_or-take base old i blank l;
+  empty = λ i h l. subst (λ (c : Cell M V). NoSpace m c.entry)
+      (sym (get_or-append_right (take base old) _ base i blank front h ∙ get_or_append_left part _ blank (i - base) (omega (arith, long))))
+      (none (i - base) (omega (arith, long)));
+  room = length-append (take base old) (part ++ drop n (drop base old)) ∙ ap (λ x. length (take base old) + x) (length-append part (drop n (drop base old))) ∙ omega (arith, front, back, end, long);
+} where
+  front : length (take base old) ≡ base
+  front = length-take-le base old (omega arith)
+
+  back : length (drop base old) ≡ length old - base
+  back = length-drop base old
+
+  end : length (drop n (drop base old)) ≡ length (drop base old) - n
+  end = length-drop n (drop base old)
+
+  long : length part ≡ n
+  long = same ∙ length-take-le n (drop base old) (omega (arith, back))
+
+pub cleared : {M V : Type 0} (m m' base k : ℕ) (old part : List (Cell M V)) → m' ≡ m → base + k * m ≤ length old → length part ≡ length (mid_of base (base + k * m' - base) old) → ((i : ℕ) → i < length part → NoSpace m' (entry_in part i)) →
+    Cleared m base k old (put_mid base (base + k * m' - base) old part)
+cleared m m' base k old part e fits same none = part_cleared m base k (base + k * m' - base) old part (rw e (omega arith)) (rw e (omega arith)) same (rw e at none)
 
 pub some_room : (k m : ℕ) → 1 ≤ k → 1 ≤ m → 1 ≤ k * m
 some_room k m h l = let a = mul-le 1 1 k m h l in omega arith

@@ -17,15 +17,12 @@ use search::firsts::first_plan;
 use sets::PlaceSet;
 use tables::access::set_entry;
 
-// Leaves no subspace waiting in the cells from one to another, for m stops. By index: of what is written through `iter_mut` a
-// proof knows how many they are, and no more.
-fn clear<M, V: Copy>(cells: &mut [Cell<M, V>], from: usize, to: usize, m: usize)
-    requires { to ≤ length cells.old }
-    ensures kept { Kept from cells.old cells.new }
-    ensures empty { (i : ℕ) → from ≤ i → i < to → NoSpace m (entry_in cells.new i) }
+// Leaves no subspace waiting in these cells, for m stops.
+fn clear<M, V: Copy>(cells: &mut [Cell<M, V>], m: usize)
+    ensures { (i : ℕ) → i < length cells.new → NoSpace m (entry_in cells.new i) }
 {
-    for i in from..to {
-        set_entry(cells, i, Entry::without_plan(m));
+    for cell in cells.iter_mut() {
+        cell.entry = Entry::without_plan(m);
     }
 }
 
@@ -42,7 +39,7 @@ impl<'a> Waiting<'a> {
     {
         let m = self.job.len();
         let to = self.base + self.k * m;
-        clear(cells, self.base, to, m);
+        clear(&mut cells[self.base..to], m);
         let places = Places::zero();
         let board = Board {
             cells,
