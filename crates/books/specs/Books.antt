@@ -3,7 +3,9 @@ use Rattle.std.specs.Prelude.{ℕ, ◌+◌, min, List, [], ◌∷◌, ◌++◌, 
 use Rattle.streets.specs.declared.legs.LegRecord.{LegRecord}
 use Rattle.faults.specs.declared.Text.TheVariants.{Book as OfBook}
 use Rattle.faults.specs.declared.TextFault.{TextFault}
-use Rattle.texts.specs.Rows.{Grammar, read_text}
+use Rattle.faults.specs.declared.LineFault.{LineFault}
+use Rattle.texts.specs.Rows.{Grammar, read_rows, read_text}
+use Rattle.texts.specs.Cut.{rows}
 use Rattle.books.specs.declared.line.Entry.{Entry}
 use Rattle.books.specs.declared.line.Entry.TheVariants.{Place, Leg}
 use Rattle.books.specs.declared.line.Counts.{Counts}
@@ -21,6 +23,10 @@ advance told (Leg l) = counts told.places (told.legs + 1)
 -- the lines of a book, where there is room for so much
 abbrev pub book_lines : Room → Grammar Counts Entry
 book_lines room = record { text = OfBook; line = λ s told fs. line_of s told room fs; next = advance }
+
+-- what all lines of a text tell, or the first fault in one
+abbrev pub all_told : Room → List ℕ → Result (List Entry) LineFault
+all_told room t = read_rows (book_lines room) (counts 0 0) 1 (rows t)
 
 abbrev pub kinds_of : List Entry → List ℕ
 kinds_of [] = []

@@ -1,8 +1,7 @@
 ghost use Rattle.std.specs.Prelude.{◌≡◌, ◌≤◌, length, IfOk, MatchResult};
-ghost use Rattle.texts.specs.Cut.{rows};
-ghost use Rattle.texts.specs.Rows.{read_rows, state_after};
+ghost use Rattle.texts.specs.Rows.{state_after};
 ghost use Rattle.books.specs.Sensible.{Sensible};
-ghost use Rattle.books.specs.Books.{counts as countsOf, book_lines, book_of, finished, read_book, room_in, tally, over};
+ghost use Rattle.books.specs.Books.{counts as countsOf, book_lines, all_told, book_of, finished, read_book, room_in, tally, over};
 
 use crate::entries::Entries;
 use crate::line::{Counts, Entry, Room};
@@ -14,7 +13,7 @@ use texts::length::check_length;
 // The first pass: how much the lines tell, or the first refused line's fault. Nothing is written.
 fn judge(text: &[u8], room: Room) -> Result<Counts, LineFault>
     ensures within { IfOk result (λ c. (c.places ≤ room.kinds) × (c.legs ≤ room.legs)) }
-    ensures value { result ≡ state_after (book_lines room) (countsOf 0 0) (read_rows (book_lines room) (countsOf 0 0) 1 (rows text.now)) }
+    ensures value { result ≡ state_after (book_lines room) (countsOf 0 0) (all_told room text.now) }
 {
     let mut entries = Entries::new(text, room);
     while entries.next()?.is_some() {}
@@ -35,8 +34,8 @@ fn judge_book(text: &[u8], room: Room) -> Result<Counts, TextFault>
 // The second pass, over a text that the first accepted: what it tells is written to the fronts of the lists.
 fn fill(text: &[u8], room: Room, kinds: &mut [u8], legs: &mut [LegRecord]) -> Result<(), LineFault>
     requires { (room.kinds ≤ length kinds.old) × (room.legs ≤ length legs.old) }
-    ensures value { result ≡ finished (read_rows (book_lines room) (countsOf 0 0) 1 (rows text.now)) }
-    ensures written { IfOk (book_of (read_rows (book_lines room) (countsOf 0 0) 1 (rows text.now))) (λ b. (kinds.new ≡ over b.kinds kinds.old) × (legs.new ≡ over b.legs legs.old)) }
+    ensures value { result ≡ finished (all_told room text.now) }
+    ensures written { IfOk (book_of (all_told room text.now)) (λ b. (kinds.new ≡ over b.kinds kinds.old) × (legs.new ≡ over b.legs legs.old)) }
 {
     let mut entries = Entries::new(text, room);
     while let Some(entry) = entries.next()? {

@@ -30,9 +30,10 @@ impl<V> Entry<V> {
     }
 }
 
-// A cell: a record with values of the measure M, which are of the type V, and the planner's notes. It is memory that a
-// caller lends; what it holds at the start does not matter. A cell serves as one of these, by where it stands:
-// a pair of places, a place, a stop at a place, or a waiting subspace.
+// A cell: a record with values of the measure M, which are of the type V, and the planner's notes. V is a parameter since a type
+// that holds an associated type, as `M::Value`, cannot be `Copy`. It is memory that a caller lends; what it holds at the start does
+// not matter. A cell serves as one of these, by where it stands: a pair of places, a place, a stop at a place, or a waiting
+// subspace.
 #[derive_where(Clone, Copy; V)]
 #[derive(Drop)]
 pub struct Cell<M, V> {

@@ -1,5 +1,6 @@
 -- What a line of a job text tells, or the first fault in it.
-use Rattle.std.specs.Prelude.{ℕ, cond, List, length, drop, Some, None, Ok, Option, Result, ◌==◌, nat_lt}
+use Rattle.std.specs.Prelude.{◌≡◌, ℕ, ◌<◌, true, cond, List, length, drop, Some, None, Ok, Option, Result, IfOk, ◌==◌, nat_lt}
+use Rattle.jobs.specs.Trees.{tied}
 use Rattle.jobs.specs.declared.stops.Link.{Link}
 use Rattle.jobs.specs.declared.stops.Link.TheVariants.{Direct, Ride}
 use Rattle.jobs.specs.declared.stops.Tie.{Tie}
@@ -55,3 +56,7 @@ line_of s t fs =
     cond (is 83 (letter_in fs))
     (cond (length fs == 5) (stop_of (next_field s) t (drop 1 fs)) (bad_line FieldCount s))
     (bad_field NotLetter s 1)
+
+-- a stop that is told after `told` others keeps the rules of a job: there is room for it, and it is tied as it may be
+abbrev pub Keeps : ℕ → Result Stop LineFault → Type 0
+Keeps told r = IfOk r (λ s. (told < 12) × (tied told s.tie ≡ true))

@@ -2,7 +2,7 @@ ghost use Rattle.std.specs.Prelude.{◌≡◌, ◌<◌, ◌≤◌, true, length,
 ghost use Rattle.jobs.specs.Trees.{tied};
 ghost use Rattle.texts.specs.Means.{fields_left, spot_of};
 ghost use Rattle.texts.specs.Rules.{Kept};
-ghost use Rattle.job_texts.specs.Lines.{link_of, tie_of, parts_of, judged, stop_of, line_of};
+ghost use Rattle.job_texts.specs.Lines.{link_of, tie_of, parts_of, judged, stop_of, line_of, Keeps};
 
 use faults::{FieldWrong, LineFault, LineWrong, Spot};
 use jobs::stops::{Link, Stop, Tie};
@@ -73,7 +73,7 @@ impl StopLine {
     fn stop(self, at: Spot, told: usize) -> Result<Stop, LineFault>
         requires { self.number ≤ 11 }
         ensures value { result ≡ judged at told self }
-        ensures keeps { IfOk result (λ s. (told < 12) × (tied told s.tie ≡ true)) }
+        ensures keeps { Keeps told result }
     {
         if usize::from(self.number) != told {
             return Err(at.fault(FieldWrong::NotNextStop, 2));
@@ -89,7 +89,7 @@ impl StopLine {
 fn read_stop(reader: &mut Reader, told: usize) -> Result<Stop, LineFault>
     requires { 3 < length (fields_left reader.old) }
     ensures value { result ≡ stop_of (spot_of reader.old) told (fields_left reader.old) }
-    ensures keeps { IfOk result (λ s. (told < 12) × (tied told s.tie ≡ true)) }
+    ensures keeps { Keeps told result }
     ensures kept { Kept reader.old reader.new }
 {
     let at = reader.spot();
@@ -100,7 +100,7 @@ fn read_stop(reader: &mut Reader, told: usize) -> Result<Stop, LineFault>
 #[tactic(auto, unfolding(crate::specs::Lines::line_of))]
 pub fn read_line(reader: &mut Reader, told: usize) -> Result<Stop, LineFault>
     ensures value { result ≡ line_of (spot_of reader.old) told (fields_left reader.old) }
-    ensures keeps { IfOk result (λ s. (told < 12) × (tied told s.tie ≡ true)) }
+    ensures keeps { Keeps told result }
     ensures kept { Kept reader.old reader.new }
 {
     match reader.letter() {

@@ -33,7 +33,7 @@ use turns::order::Order;
 const CELLS: usize = 912;
 
 // Why a case has no plans: a number of the quarter is outside its range, the stops make no tree, or there are too few
-// cells.
+// cells or not 1 to 256 plans wanted.
 #[derive(Debug, PartialEq, Eq, Clone, Copy)]
 enum Refusal {
     NoQuarter,
@@ -295,7 +295,7 @@ struct Lent {
 }
 
 impl Lent {
-    // Prints a line and runs its case, over the cells of its measure. A line that begins with # is only printed.
+    // Prints a line and runs its case, over the cells of its measure. A line whose first word is # is only printed.
     fn run_line(&mut self, rt: &HostRuntime, line: &str) -> anyhow::Result<()> {
         println!(rt; "{line}")?;
         let mut words = line.split_terminator(' ');

@@ -38,6 +38,7 @@ const OLD_LEG: LegRecord = LegRecord {
 fn fill(out: &mut Vec<u8>, bytes: &mut Iter<u8>) -> Result<(), AllocError>
     ensures { OnOk result (length bytes.new.rest.now ≤ length bytes.old.rest.now) }
 {
+    // not by `parse`, which would bring an error: a count is small, and what a longer one means does not matter
     let mut count = 0u32;
     while let Some(b) = bytes.next() {
         if !b.is_ascii_digit() {

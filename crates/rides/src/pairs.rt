@@ -26,7 +26,8 @@ impl<'a, M, V: Copy> PairTable<'a, M, V> {
         PairTable { cells, n }
     }
 
-    // How many places there are; the check proves loops over this answer that it leaves open over `self.n`.
+    // How many places there are. The loops of `start_row`, `start` and `close` go over this answer: over `self.n`, which was tried,
+    // their ends stay open.
     pub(crate) fn places(&self) -> usize
         ensures { result ≡ self.now.n }
     {

@@ -228,7 +228,7 @@ mod tests {
     // Three stops: the second hangs on the root, the third on the root or on the second.
     fn tree(parent: u8, first: Link, second: Link) -> Result<Job, Wrong> {
         let mut draft = Draft::new();
-        draft.push(Stop { kind: 0, tie: None })?;
+        draft.push(Stop::default())?;
         draft.push(tied(0, first))?;
         draft.push(tied(parent, second))?;
         Ok(Job::try_from(draft)?)

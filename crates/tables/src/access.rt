@@ -3,8 +3,8 @@ ghost use Rattle.tables.specs.Tables.{blank, leg_in, ride_in, kind_in, own_in, b
 
 use cells::cell::{Cell, Entry};
 
-// The bounds of n, of m and of the length stand at each function, since they are bounds of a call's own arguments. Who calls,
-// as a board, has them in its own type; a struct of n and m that has them would be made for a single call.
+// The bounds of n, of m and of the length stand at each function, since they are bounds of a call's own arguments. Boards and
+// the table of pairs have them in their types; for any other caller a struct of n and m would be made for a single call.
 
 // Where cell `b` of row `a` stands in a table of rows with n cells each.
 #[tactic(auto, using(std::proofs::lemmas::Nat::rows))]
@@ -72,7 +72,8 @@ pub fn stop_at<M, V: Copy>(
 }
 
 // Writes a stop's own value into a cell; nothing else changes. There are four writers, since a contract names the field that
-// is written, and one for all would have to switch on it.
+// is written; a function that lends the cell to be written would leave what is written to a proof at each caller. They stand
+// beside the methods of a board, since they write any cell, with no board.
 #[tactic(auto, using(crate::proofs::Reading::there_set, crate::proofs::Reading::other_set, crate::proofs::Reading::same_there, crate::proofs::Reading::owns_only))]
 pub fn set_own<M, V: Copy>(cells: &mut [Cell<M, V>], at: usize, value: Option<V>)
     requires { at < length cells.old }

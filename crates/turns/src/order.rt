@@ -6,7 +6,7 @@ use jobs::job::Job;
 use waiting::queue::Waiting;
 
 // What is asked for: the plans of a job over n places, of which k are wanted. That there are cells enough stands in the calls:
-// a struct over the cells would hold them as `&mut`, which `look` must not ask for.
+// `look` only reads the cells, so there would have to be two structs over them, one to read and one to write, for four calls.
 #[derive(Clone, Copy)]
 pub struct Order<'a> {
     pub n: usize,

@@ -1,7 +1,5 @@
 ghost use Rattle.std.specs.Prelude.{◌≡◌};
-ghost use Rattle.texts.specs.Cut.{rows};
-ghost use Rattle.texts.specs.Rows.{read_rows};
-ghost use Rattle.books.specs.Books.{counts as countsOf, book_lines};
+ghost use Rattle.books.specs.Books.{counts as countsOf, all_told};
 ghost use Rattle.books.specs.Entries.{left, EntryStep};
 
 use crate::entries::Entries;
@@ -12,7 +10,7 @@ use texts::reader::Reader;
 impl<'a> Entries<'a> {
     // The entries of a whole text.
     pub(crate) fn new(text: &'a [u8], room: Room) -> Entries<'a>
-        ensures { (left result ≡ read_rows (book_lines room) (countsOf 0 0) 1 (rows text.now)) × (result.progress.told ≡ countsOf 0 0) × (result.progress.room ≡ room) }
+        ensures { (left result ≡ all_told room text.now) × (result.progress.told ≡ countsOf 0 0) × (result.progress.room ≡ room) }
     {
         let told = Counts { places: 0, legs: 0 };
         Entries {

@@ -145,7 +145,7 @@ impl<'a> Reader<'a> {
         Some(Token::new(part, start))
     }
 
-    // How many fields of the line at hand are left.
+    // How many fields of the line at hand are left. By cases: `map_or` was tried, and was not proved.
     #[tactic(auto, using(crate::proofs::Cuts::line_fields))]
     pub fn fields(&self) -> usize
         ensures { result ≡ length (fields_left self.now) }
