@@ -12,27 +12,33 @@ ghost use Rattle.minima.specs.Tables.{link_in, hanging_in, RowIn, Holds, task_in
 use crate::board::{Board, BoardMut};
 use cells::order::lesser;
 use measures::Measure;
-use measures::optional::{join_options, total};
+use measures::optional::join_options;
 
 impl<'a, M: Measure> Board<'a, M, M::Value> {
-    // What stop c adds to the subtree of stop s at place q, nothing where it does not hang on s.
-    fn hung(&self, s: usize, q: usize, c: usize) -> Option<M::Value>
+    // A sum with what stop c adds to the subtree of stop s at place q, nothing where it does not hang on s.
+    fn with_hanging(&self, sum: Option<M::Value>, s: usize, q: usize, c: usize) -> Option<M::Value>
         requires { (q < self.now.n) × (c < length (stops_of self.now.job.now)) }
-        ensures { result ≡ (if child_in (stops_of self.now.job.now) s c then hang_in self.now.cells.now self.now.n c q else Some M.Measure.meaning.nought) }
+        ensures { result ≡ both M.Measure.meaning.joined sum (if child_in (stops_of self.now.job.now) s c then hang_in self.now.cells.now self.now.n c q else Some M.Measure.meaning.nought) }
     {
         if self.job.hangs_on(c, s) {
-            self.at(c, q).hang
+            join_options::<M>(sum, self.at(c, q).hang)
         } else {
-            Some(M::ZERO)
+            sum
         }
     }
 
-    // What all stops that hang on stop s add to its subtree at place q.
+    // What all stops that hang on stop s add to its subtree at place q. No `total`, which was tried: it joins once for every
+    // stop, and this for those that hang on s alone. By number: the tables are read by it, and `hangs_on` asks for it.
+    #[tactic(auto, using(measures::proofs::Totals::total_none, measures::proofs::Totals::total_more))]
     fn hanging(&self, s: usize, q: usize) -> Option<M::Value>
         requires { q < self.now.n }
         ensures { result ≡ hanging_in M.Measure.meaning self.now.cells.now self.now.n (stops_of self.now.job.now) s q }
     {
-        total::<M, _>(self.job.len(), |c| self.hung(s, q, c))
+        let mut sum = Some(M::ZERO);
+        for c in 0..self.job.len() {
+            sum = self.with_hanging(sum, s, q, c);
+        }
+        sum
     }
 
     // The least value of the subtree of stop s at place q, where the stops that hang on it have theirs.
