@@ -96,7 +96,8 @@ fn hung_value<M: Measure>(
     )
 }
 
-// The placement with this number, with its score joined from the tables.
+// The placement with this number, with its score joined from the tables. Cells and job stand apart here and
+// below: a `Board` of them would say no more, and its readers ask that the job has three stops.
 fn laid_out<M: Measure>(
     cells: &[Cell<M, M::Value>; CELLS],
     job: &Job,
