@@ -1,16 +1,16 @@
 -- Rows of waiting subspaces, each led by its head. The head of row r is entry r, and its other entries begin at
 -- `row_start`. Where every row in use is led, the least of the k heads is the least of all k x m entries.
-use Rattle.std.specs.Prelude.{◌≡◌, ℕ, ◌+◌, ◌-◌, ◌*◌, ◌<◌, ◌≤◌, true, ◌⊎◌, List, ◌∷◌, length, Option, MatchOption, ◌≢◌, slice_index_or}
+use Rattle.std.specs.Prelude.{◌≡◌, ℕ, ◌+◌, ◌-◌, ◌*◌, ◌<◌, ◌≤◌, true, ◌⊎◌, List, length, Option, ◌≢◌, slice_index_or}
 use Rattle.measures.specs.Meaning.{MeasureMeaning}
 use Rattle.measures.specs.Scales.{optional}
 use Rattle.jobs.specs.declared.stops.Stop.{Stop}
 use Rattle.trees.specs.Tasks.{Task}
-use Rattle.trees.specs.Rounds.{Partition, Chosen, FirstLeft, NoneLeft}
+use Rattle.trees.specs.Rounds.{Partition}
 use Rattle.cells.specs.declared.cell.Cell.{Cell}
-use Rattle.cells.specs.Cells.{places_of, entry_before}
+use Rattle.cells.specs.Cells.{entry_before}
 use Rattle.tables.specs.Tables.{blank, entry_in, Kept}
 use Rattle.minima.specs.Tables.{Tables}
-use Rattle.waiting.specs.Queues.{waiting_in, row_start, Queue, FreeHeads, TablesKept, Splittable}
+use Rattle.waiting.specs.Queues.{waiting_in, row_start, Queue, FreeHeads, TablesKept, FindsFirst, WaitsOn, Splittable}
 
 -- the head of a row is at or before every other entry of it
 pub record Led {M V : Type 0} (meaning : MeasureMeaning V) (cells : List (Cell M V)) (base m k row : ℕ) : Type 0 where
@@ -46,9 +46,7 @@ pub record Rows {M V : Type 0} (cells : List (Cell M V)) (base n m k rows : ℕ)
 -- none where no plan is left
 pub record HeadPlan {M V : Type 0} (meaning : MeasureMeaning V) (cells : List (Cell M V)) (base m k : ℕ) (r : Option ℕ) : Type 0 where
   pub told : (τ : Task (Option V)) (H : ℕ → ℕ → Option V) (n rows : ℕ) (stops : List Stop) (given : List (ℕ → ℕ)) → length stops ≡ m → Tables meaning cells n stops τ H →
-      Rows cells base n m k rows → AllLed meaning cells base m k rows → Partition (optional meaning) τ H given (k * m) (waiting_in cells base) →
-      MatchOption r (NoneLeft (optional meaning) τ given) (λ w. Chosen (optional meaning) τ (k * m) (waiting_in cells base) w
-      × FirstLeft (optional meaning) τ given (places_of (entry_in cells (base + w)).places) (entry_in cells (base + w)).score)
+      Rows cells base n m k rows → AllLed meaning cells base m k rows → Partition (optional meaning) τ H given (k * m) (waiting_in cells base) → FindsFirst meaning τ given cells base (k * m) r
 
 -- head w is in use and can be split
 pub record Givable {M V : Type 0} (cells : List (Cell M V)) (n : ℕ) (stops : List Stop) (base k rows w : ℕ) : Type 0 where
@@ -62,6 +60,4 @@ pub record Advanced {M V : Type 0} (meaning : MeasureMeaning V) (stops : List St
   pub tables : TablesKept meaning n stops old new
   pub used : Rows old base n (length stops) k rows → Rows new base n (length stops) k (rows + 1)
   pub led : AllLed meaning old base (length stops) k rows → AllLed meaning new base (length stops) k (rows + 1)
-  pub stands : (τ : Task (Option V)) (H : ℕ → ℕ → Option V) (given : List (ℕ → ℕ)) → Tables meaning old n stops τ H → Rows old base n (length stops) k rows →
-      Partition (optional meaning) τ H given (k * length stops) (waiting_in old base) → Chosen (optional meaning) τ (k * length stops) (waiting_in old base) w →
-      Partition (optional meaning) τ H (places_of (entry_in old (base + w)).places ∷ given) (k * length stops) (waiting_in new base)
+  pub stands : (τ : Task (Option V)) (H : ℕ → ℕ → Option V) (given : List (ℕ → ℕ)) → Tables meaning old n stops τ H → Rows old base n (length stops) k rows → WaitsOn meaning τ H given base (k * length stops) w old new

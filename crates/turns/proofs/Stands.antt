@@ -10,7 +10,7 @@ use Rattle.measures.specs.Scales.{Scale, Sound, optional}
 use Rattle.trees.specs.Tasks.{Task, Rooted}
 use Rattle.trees.specs.Minima.{Minimal}
 use Rattle.trees.specs.Subspaces.{Subspace}
-use Rattle.trees.specs.Rounds.{Partition, Chosen, FirstLeft, NoneLeft}
+use Rattle.trees.specs.Rounds.{Partition, Chosen, FirstLeft}
 use Rattle.trees.proofs.Lift.{lifted}
 use Rattle.trees.proofs.Firsts.{itself}
 use Rattle.cells.specs.declared.cell.Cell.{Cell}
@@ -26,7 +26,7 @@ use Rattle.minima.specs.Tables.{Holds, Tables}
 use Rattle.minima.specs.Boards.{SameBoard}
 use Rattle.minima.specs.declared.board.BoardMut.{BoardMut}
 use Rattle.jobs.proofs.Ties.{job_tree, some_stop}
-use Rattle.waiting.specs.Queues.{waiting_in, Placed, TablesKept}
+use Rattle.waiting.specs.Queues.{waiting_in, Placed, TablesKept, FindsFirst}
 use Rattle.leaders.specs.Leaders.{AllLed, Rows, Givable, Advanced, HeadPlan}
 use Rattle.leaders.proofs.Foremost.{head_in}
 use Rattle.turns.specs.Standing.{behind_tables, needed, Tabled, Standing, Waits, Looked, Gave}
@@ -90,12 +90,11 @@ module _ {M V : Type 0} (meaning : MeasureMeaning V) (street : StreetMeaning) (o
 
 -- what the search finds is the first plan left, or that no plan is left
 pub found : {M V : Type 0} (meaning : MeasureMeaning V) (laws : Laws meaning.nought meaning.joined meaning.before) (street : StreetMeaning) (j : Job) (n k : ℕ) (given : List (ℕ → ℕ)) (cells : List (Cell M V)) (base : ℕ) →
-    Standing meaning street (stops_of j) n k given cells → (r : Option ℕ) (C : ℕ → Type 0) →
-    MatchOption r (NoneLeft (optional meaning) (task_of meaning street (job_meaning (stops_of j))) given) (λ w. C w × FirstLeft (optional meaning) (task_of meaning street (job_meaning (stops_of j))) given (places_of (entry_in cells (base + w)).places) (entry_in cells (base + w)).score) →
+    Standing meaning street (stops_of j) n k given cells → (len : ℕ) (r : Option ℕ) → FindsFirst meaning (task_of meaning street (job_meaning (stops_of j))) given cells base len r →
     MatchOption r (NoPlanLeft meaning street (job_meaning (stops_of j)) given)
     (λ w. (v : V) × ((entry_in cells (base + w)).score ≡ Some v) × FirstPlanLeft meaning street (job_meaning (stops_of j)) given (places_of (entry_in cells (base + w)).places) v)
-found meaning laws street j n k given cells base s None C h = (tour_laws_lem meaning laws).none_right street (job_meaning (stops_of j)) given s.tabled.sound ((tour_laws_lem meaning laws).tree (stops_of j) (job_tree j)) h
-found meaning laws street j n k given cells base s (Some w) C h =
+found meaning laws street j n k given cells base s len None h = (tour_laws_lem meaning laws).none_right street (job_meaning (stops_of j)) given s.tabled.sound ((tour_laws_lem meaning laws).tree (stops_of j) (job_tree j)) h
+found meaning laws street j n k given cells base s len (Some w) h =
     (tour_laws_lem meaning laws).first_right street (job_meaning (stops_of j)) given (places_of (entry_in cells (base + w)).places) (entry_in cells (base + w)).score s.tabled.sound ((tour_laws_lem meaning laws).tree (stops_of j) (job_tree j)) h.1
 
 -- the first plan left waits in the entry that is chosen
@@ -164,8 +163,7 @@ looked meaning laws j n k cells room b m k' p q s r found-head =
       some = h.some;
       ready = λ rows row used. splittable cells n k rows (behind_tables n (length (stops_of j))) (stops_of j) room refl row r (h.ready n rows used);
       plan = λ street given s. let τ = task_of meaning street (job_meaning (stops_of j)) in
-          found meaning laws street j n k given cells (behind_tables n (length (stops_of j))) s r
-          (λ w. Chosen (optional meaning) (task_of meaning street (job_meaning (stops_of j))) (k * length (stops_of j)) (waiting_in cells (behind_tables n (length (stops_of j)))) w)
+          found meaning laws street j n k given cells (behind_tables n (length (stops_of j))) s (k * length (stops_of j)) r
           (h.plan.told τ s.tabled.minima n (length given) (stops_of j) given refl s.tabled.tables s.used s.led s.parted);
     }
 

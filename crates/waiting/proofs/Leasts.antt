@@ -17,7 +17,7 @@ use Rattle.cells.specs.declared.cell.Entry.{Entry}
 use Rattle.cells.specs.Cells.{places_of, entry_before}
 use Rattle.tables.specs.Tables.{blank, entry_in}
 use Rattle.minima.specs.Tables.{Tables}
-use Rattle.waiting.specs.Queues.{waiting_in, row_start, Placed, Queue, FirstWaiting, NextPlan}
+use Rattle.waiting.specs.Queues.{waiting_in, row_start, Placed, Queue, FirstWaiting, FindsFirst, NextPlan}
 
 module _ {M V : Type 0} (cells : List (Cell M V)) (before : V → V → Bool) (from to : ℕ) (le : from ≤ to) (fits : to ≤ length cells) where
   long : length (take (to - from) (drop from cells)) ≡ to - from
@@ -82,7 +82,7 @@ module _ {M V : Type 0} (meaning : MeasureMeaning V) (cells : List (Cell M V)) (
   -- and it has the first plan left, or no plan is left
   pub plan_next : (laws : Laws meaning.nought meaning.joined meaning.before) (τ : Task (Option V)) (H : ℕ → ℕ → Option V) (n : ℕ) (stops : List Stop) (given : List (ℕ → ℕ)) → length stops ≡ m → m ≤ 12 →
       Tables meaning cells n stops τ H → Partition (optional meaning) τ H given (k * m) (waiting_in cells base) → (r : Option ℕ) → FirstWaiting meaning cells base (k * m) r →
-      MatchOption r (NoneLeft (optional meaning) τ given) (λ w. Chosen (optional meaning) τ (k * m) (waiting_in cells base) w × FirstLeft (optional meaning) τ given (places_of (entry_in cells (base + w)).places) (entry_in cells (base + w)).score)
+      FindsFirst meaning τ given cells base (k * m) r
   plan_next laws τ H n stops given size few tables waits None f = no_plan meaning laws cells n stops base (k * m) τ H given tables waits (f.none refl)
   plan_next laws τ H n stops given size few tables waits (Some w) f = let l = f.some.0 in (
     chosen meaning laws cells n stops base (k * m) τ H given tables waits (omega arith) w l f.some.2 f.some.1,

@@ -31,17 +31,17 @@ cleared_more {M} {V} m cells k c h none before = below_more _ _
     (λ i l. let ne : i ≡ k → ⊥ = omega arith in subst (λ (x : Cell M V). NoSpace m x.entry) (sym (get_or-set_other cells k i c blank ne)) (before i l))
     (subst (λ (x : Cell M V). NoSpace m x.entry) (sym (get_or-set_same cells k c blank h)) none)
 
--- k x m cells from cell `base` on are without a subspace, and those before them are as they were
-pub record Cleared {M V : Type 0} (m base k : ℕ) (old mid : List (Cell M V)) : Type 0 where
+-- n cells from cell `base` on are without a subspace, and those before them are as they were
+pub record Cleared {M V : Type 0} (m base n : ℕ) (old mid : List (Cell M V)) : Type 0 where
   pub kept : Kept base old mid
-  pub empty : (i : ℕ) → base ≤ i → i < base + k * m → NoSpace m (entry_in mid i)
+  pub empty : (i : ℕ) → base ≤ i → i < base + n → NoSpace m (entry_in mid i)
   pub room : length mid ≡ length old
 
 -- so it is where they are written as a part of the cells
-part_cleared : {M V : Type 0} (m base k n : ℕ) (old part : List (Cell M V)) → n ≡ k * m → base + n ≤ length old → length part ≡ length (mid_of base n old) → ((i : ℕ) → i < length part → NoSpace m (entry_in part i)) →
-    Cleared m base k old (put_mid base n old part)
+pub part_cleared : {M V : Type 0} (m base n : ℕ) (old part : List (Cell M V)) → base + n ≤ length old → length part ≡ length (mid_of base n old) → ((i : ℕ) → i < length part → NoSpace m (entry_in part i)) →
+    Cleared m base n old (put_mid base n old part)
 unfolding entry_in
-part_cleared {M} {V} m base k n old part is fits same none = record {
+part_cleared {M} {V} m base n old part fits same none = record {
   kept = λ i l. get_or_append_left (take base old) _ blank i (omega (arith, front)) ∙ get_or-take base old i blank l;
   empty = λ i h l. subst (λ (c : Cell M V). NoSpace m c.entry)
       (sym (get_or-append_right (take base old) _ base i blank front h ∙ get_or_append_left part _ blank (i - base) (omega (arith, long))))
@@ -59,10 +59,6 @@ part_cleared {M} {V} m base k n old part is fits same none = record {
 
   long : length part ≡ n
   long = same ∙ length-take-le n (drop base old) (omega (arith, back))
-
-pub cleared : {M V : Type 0} (m m' base k : ℕ) (old part : List (Cell M V)) → m' ≡ m → base + k * m ≤ length old → length part ≡ length (mid_of base (base + k * m' - base) old) → ((i : ℕ) → i < length part → NoSpace m' (entry_in part i)) →
-    Cleared m base k old (put_mid base (base + k * m' - base) old part)
-cleared m m' base k old part e fits same none = part_cleared m base k (base + k * m' - base) old part (rw e (omega arith)) (rw e (omega arith)) same (rw e at none)
 
 pub some_room : (k m : ℕ) → 1 ≤ k → 1 ≤ m → 1 ≤ k * m
 some_room k m h l = let a = mul-le 1 1 k m h l in omega arith

@@ -1,5 +1,5 @@
 -- The step of the partition, from what the calls of the split say.
-use Rattle.std.proofs.Common.{◌≡◌, ℕ, ◌+◌, ◌-◌, ◌*◌, ◌<◌, ◌≤◌, ◌||◌, eqb, ◌⊎◌, List, ◌∷◌, get_or, Option, sym, refl, ap, ◌∙◌, subst, ⊎_elim, arith}
+use Rattle.std.proofs.Common.{◌≡◌, ℕ, ◌+◌, ◌-◌, ◌*◌, ◌<◌, ◌≤◌, ◌||◌, eqb, ◌⊎◌, List, get_or, Option, sym, refl, ap, ◌∙◌, subst, ⊎_elim, arith}
 use Rattle.std.proofs.lemmas.Nat.{mul-le}
 use Rattle.std.proofs.lemmas.Bool.{cases_lt, cases_eq, eqb-false, ne_eqb, or_parts, or_from}
 use Rattle.measures.specs.Laws.{Laws}
@@ -10,7 +10,6 @@ use Rattle.sets.specs.Sets.{has_bit}
 use Rattle.measures.specs.Scales.{optional}
 use Rattle.trees.specs.Tasks.{Task}
 use Rattle.trees.specs.Subspaces.{First, Split}
-use Rattle.trees.specs.Rounds.{Partition, Chosen}
 use Rattle.trees.proofs.Lift.{lifted}
 use Rattle.trees.proofs.Rounds.{step}
 use Rattle.cells.specs.declared.cell.Cell.{Cell}
@@ -18,7 +17,7 @@ use Rattle.cells.specs.declared.cell.Entry.{Entry}
 use Rattle.cells.specs.Cells.{places_of, space_of}
 use Rattle.tables.specs.Tables.{blank, entry_in, Kept}
 use Rattle.minima.specs.Tables.{Tables}
-use Rattle.waiting.specs.Queues.{waiting_in, row_start, Part, Safe, Queue, FreeHeads}
+use Rattle.waiting.specs.Queues.{waiting_in, row_start, Part, Safe, Queue, FreeHeads, WaitsOn}
 use Rattle.waiting.proofs.Keeping.{same_entry}
 use Rattle.sets.specs.Placements.{Same}
 
@@ -115,8 +114,7 @@ module _ {M V : Type 0} (old mid new : List (Cell M V)) (n m base k rows w : ℕ
       from = λ r d h. f.excluded r ∙ or_from _ _ (h refl) (ne_eqb r _ d);
     })
 
-    pub advanced : (given : List (ℕ → ℕ)) → Partition (optional meaning) τ H given (k * m) (waiting_in old base) → Chosen (optional meaning) τ (k * m) (waiting_in old base) w →
-        Partition (optional meaning) τ H (places_of (entry_in old (base + w)).places ∷ given) (k * m) (waiting_in new base)
+    pub advanced : (given : List (ℕ → ℕ)) → WaitsOn meaning τ H given base (k * m) w old new
     advanced given waits chosen = step (optional meaning) (lifted meaning laws) τ H tables.holds.rooted tables.minimal given (k * m) (waiting_in old base) w (row_start m k rows) (waiting_in new base) waits chosen
         (record {
           room = λ u l. let e = row_ends m k rows some row in omega arith;

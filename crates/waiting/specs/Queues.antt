@@ -56,6 +56,18 @@ pub record Queue {M V : Type 0} (cells : List (Cell M V)) (base n m k rows : ℕ
 abbrev pub FreeHeads : {M V : Type 0} → List (Cell M V) → ℕ → ℕ → ℕ → ℕ → Type 0
 FreeHeads cells base m k rows = (v : ℕ) → 0 < v → rows ≤ v → v < k → (entry_in cells (base + v)).depth ≡ m
 
+-- of `len` entries from cell `base` on, r is the one in which the first plan of the task waits that is not given, or none
+-- where no plan is left
+abbrev pub FindsFirst : {M V : Type 0} → MeasureMeaning V → Task (Option V) → List (ℕ → ℕ) → List (Cell M V) → ℕ → ℕ → Option ℕ → Type 0
+FindsFirst meaning τ given cells base len r = MatchOption r (NoneLeft (optional meaning) τ given) (λ w. Chosen (optional meaning) τ len (waiting_in cells base) w
+    × FirstLeft (optional meaning) τ given (places_of (entry_in cells (base + w)).places) (entry_in cells (base + w)).score)
+
+-- where every plan that is not given waits in `len` entries from cell `base` on, and the first in entry w, every other one
+-- waits on
+abbrev pub WaitsOn : {M V : Type 0} → MeasureMeaning V → Task (Option V) → (ℕ → ℕ → Option V) → List (ℕ → ℕ) → ℕ → ℕ → ℕ → List (Cell M V) → List (Cell M V) → Type 0
+WaitsOn meaning τ H given base len w old new = Partition (optional meaning) τ H given len (waiting_in old base) → Chosen (optional meaning) τ len (waiting_in old base) w →
+    Partition (optional meaning) τ H (places_of (entry_in old (base + w)).places ∷ given) len (waiting_in new base)
+
 -- an entry for no subspace: its depth is no stop
 abbrev pub NoSpace : {V : Type 0} → ℕ → Entry V → Type 0
 NoSpace m e = (e.score ≡ None) × (e.depth ≡ m)
@@ -75,9 +87,7 @@ pub record SplitOff {M V : Type 0} (meaning : MeasureMeaning V) (stops : List St
   pub tables : TablesKept meaning n stops old new
   pub queue : Queue old base n (length stops) k rows → Queue new base n (length stops) k (rows + 1)
   pub heads : FreeHeads old base (length stops) k rows → FreeHeads new base (length stops) k (rows + 1)
-  pub stands : (τ : Task (Option V)) (H : ℕ → ℕ → Option V) (given : List (ℕ → ℕ)) → Tables meaning old n stops τ H → Queue old base n (length stops) k rows →
-      Partition (optional meaning) τ H given (k * length stops) (waiting_in old base) → Chosen (optional meaning) τ (k * length stops) (waiting_in old base) w →
-      Partition (optional meaning) τ H (places_of (entry_in old (base + w)).places ∷ given) (k * length stops) (waiting_in new base)
+  pub stands : (τ : Task (Option V)) (H : ℕ → ℕ → Option V) (given : List (ℕ → ℕ)) → Tables meaning old n stops τ H → Queue old base n (length stops) k rows → WaitsOn meaning τ H given base (k * length stops) w old new
 
 -- of `count` entries from cell `from` on, r is the one whose plan comes first, counted from the first of them; r is none
 -- where none of them has a plan
@@ -90,5 +100,4 @@ pub record FirstWaiting {M V : Type 0} (meaning : MeasureMeaning V) (cells : Lis
 pub record NextPlan {M V : Type 0} (meaning : MeasureMeaning V) (cells : List (Cell M V)) (base m k : ℕ) (r : Option ℕ) : Type 0 where
   pub told : (τ : Task (Option V)) (H : ℕ → ℕ → Option V) (n : ℕ) (stops : List Stop) (given : List (ℕ → ℕ)) → length stops ≡ m → Tables meaning cells n stops τ H →
       Partition (optional meaning) τ H given (k * m) (waiting_in cells base) →
-      MatchOption r (NoneLeft (optional meaning) τ given) (λ w. Chosen (optional meaning) τ (k * m) (waiting_in cells base) w
-      × FirstLeft (optional meaning) τ given (places_of (entry_in cells (base + w)).places) (entry_in cells (base + w)).score)
+      FindsFirst meaning τ given cells base (k * m) r

@@ -18,12 +18,21 @@ use sets::PlaceSet;
 use tables::access::set_entry;
 
 // Leaves no subspace waiting in these cells, for m stops.
-fn clear<M, V: Copy>(cells: &mut [Cell<M, V>], m: usize)
+fn clear_all<M, V: Copy>(cells: &mut [Cell<M, V>], m: usize)
     ensures { (i : ℕ) → i < length cells.new → NoSpace m (entry_in cells.new i) }
 {
     for cell in cells.iter_mut() {
         cell.entry = Entry::without_plan(m);
     }
+}
+
+// The same for the cells from one to another; no other cell changes.
+fn clear<M, V: Copy>(cells: &mut [Cell<M, V>], from: usize, to: usize, m: usize)
+    requires { (from ≤ to) × (to ≤ length cells.old) }
+    ensures kept { Kept from cells.old cells.new }
+    ensures empty { (i : ℕ) → from ≤ i → i < to → NoSpace m (entry_in cells.new i) }
+{
+    clear_all(&mut cells[from..to], m);
 }
 
 impl<'a> Waiting<'a> {
@@ -39,7 +48,7 @@ impl<'a> Waiting<'a> {
     {
         let m = self.job.len();
         let to = self.base + self.k * m;
-        clear(&mut cells[self.base..to], m);
+        clear(cells, self.base, to, m);
         let places = Places::zero();
         let board = Board {
             cells,

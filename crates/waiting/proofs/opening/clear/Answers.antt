@@ -1,7 +1,7 @@
-use Rattle.std.proofs.Common.{ap, arith}
-use Rattle.cells.specs.declared.cell.Entry.{Entry}
-use Rattle.waiting.proofs.Starting.{cleared_more}
+use Rattle.std.proofs.Common.{◌-◌, arith}
+use Rattle.waiting.proofs.Starting.{part_cleared}
 use Rattle.waiting.proofs.opening.clear.Goals as goal
 
-pub loop-cell-preserved : goal.loop-cell-preserved
-loop-cell-preserved g c = let is = c.without_plan-cell.ensures in cleared_more _ _ _ _ (omega arith) (ap (λ (e : Entry g.row.V.Denot). e.score) is, ap (λ (e : Entry g.row.V.Denot). e.depth) is) c.loop-cell.invariant
+pub returns : goal.returns
+returns g c = let all = part_cleared c.args.m c.args.from (c.args.to - c.args.from) c.args.cells.now c.clear_all.new.cells (omega arith) c.clear_all.auto.cells c.clear_all.ensures in
+    record { kept = all.kept; empty = λ i h l. all.empty i h (omega arith) }
