@@ -7,17 +7,7 @@ use Rattle.trees.specs.Minima.{IsLeast, MinimalFrom, Minimal, bound}
 use Rattle.trees.specs.Subspaces.{Subspace, In, Picked, Found, First, Split}
 use Rattle.trees.proofs.Bounds.{one_step, local, at_end}
 use Rattle.sets.specs.Placements.{Same}
-
--- two plans agree on the stops below k, or differ first at one of them
-pub differ : (k : ℕ) (P Q : ℕ → ℕ) → Same k P Q ⊎ ((i : ℕ) × (i < k) × Same i P Q × (P i ≡ Q i → ⊥))
-differ zero P Q = inl (λ s l. absurd (omega arith))
-differ (suc k) P Q = ⊎_elim
-    (λ same. ⊎_elim
-    (λ e. inl (λ s l. ⊎_elim (same s) (λ h. let d : s ≡ k = omega arith in ap P d ∙ e ∙ ap Q (sym d)) (cases_lt s k)))
-    (λ d. inr (k, omega arith, same, d))
-    (cases_eq (P k) (Q k)))
-    (λ p. let l = p.1 in inr (p.0, omega arith, p.2, p.3))
-    (differ k P Q)
+use Rattle.sets.proofs.Places.{differ}
 
 put_here : (P : ℕ → ℕ) (i q : ℕ) → put P i q i ≡ q
 put_here P i q = cond-true (eqb i i) q (P i) (eq-eqb i i refl)

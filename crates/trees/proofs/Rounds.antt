@@ -9,7 +9,8 @@ use Rattle.trees.specs.Subspaces.{Subspace, In, First, Split}
 use Rattle.trees.specs.Rounds.{Unlike, AllBefore, InOrder, FirstLeft, NoneLeft, InTurn, nothing, next, Partition, Chosen, Parted}
 use Rattle.trees.proofs.Bounds.{total_same}
 use Rattle.trees.proofs.Firsts.{true_score, itself, others, falls, empty}
-use Rattle.sets.specs.Placements.{Same, Earlier}
+use Rattle.sets.specs.Placements.{Same}
+use Rattle.sets.proofs.Places.{earlier_chain}
 
 module _ {W : Type 0} (σ : Scale W) (sound : Sound σ) (τ : Task W) where
   leq_false : (a b c : W) → σ.leq b a ≡ false → σ.leq b c ≡ true → σ.leq c a ≡ false
@@ -18,19 +19,10 @@ module _ {W : Type 0} (σ : Scale W) (sound : Sound σ) (τ : Task W) where
   other_way : (a b : W) → σ.leq b a ≡ false → σ.leq a b ≡ true
   other_way a b h = ⊎_elim (λ t. t) (λ t. absurd (both_ways _ h t)) (sound.laws.total a b)
 
-  earlier_trans : (m : ℕ) (P Q R : ℕ → ℕ) → Earlier m P Q → Earlier m Q R → Earlier m P R
-  earlier_trans m P Q R a b = ⊎_elim
-      (λ e. (a.0, a.1, (λ s l. a.2 s l ∙ b.2 s (omega arith)), let h : Q a.0 < R a.0 = subst (λ (s : ℕ). Q s < R s) (sym e) b.3 in let k = a.3 in omega arith))
-      (λ o. ⊎_elim
-      (λ h. (a.0, a.1, (λ s l. a.2 s l ∙ b.2 s (omega arith)), subst (λ (q : ℕ). P a.0 < q) (b.2 a.0 h) a.3))
-      (λ h. (b.0, b.1, (λ s l. a.2 s (omega arith) ∙ b.2 s l), subst (λ (p : ℕ). p < R b.0) (sym (a.2 b.0 h)) b.3))
-      o)
-      (cases_order a.0 b.0)
-
   pub before_trans : (P Q R : ℕ → ℕ) → Before σ τ P Q → Before σ τ Q R → Before σ τ P R
   before_trans P Q R a b = ⊎_elim
       (λ p. ⊎_elim (λ q. inl (leq_false _ _ _ p (other_way _ _ q))) (λ q. inl (ap (λ v. σ.leq v (score σ τ P)) (sym q.0) ∙ p)) b)
-      (λ p. ⊎_elim (λ q. inl (ap (σ.leq (score σ τ R)) p.0 ∙ q)) (λ q. inr (p.0 ∙ q.0, earlier_trans τ.m P Q R p.1 q.1)) b)
+      (λ p. ⊎_elim (λ q. inl (ap (σ.leq (score σ τ R)) p.0 ∙ q)) (λ q. inr (p.0 ∙ q.0, earlier_chain τ.m P Q R p.1 q.1)) b)
       a
 
   same_score : (P Q : ℕ → ℕ) → Rooted τ → Same τ.m P Q → score σ τ P ≡ score σ τ Q
