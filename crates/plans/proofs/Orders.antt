@@ -1,5 +1,5 @@
 -- The order of plans is total and strict.
-use Rattle.std.proofs.Common.{◌≡◌, ℕ, true, false, ◌⊎◌, refl, ap, ◌∙◌, subst, inl, inr, ⊎_elim, arith}
+use Rattle.std.proofs.Common.{◌≡◌, ℕ, false, ◌⊎◌, refl, ap, ◌∙◌, subst, inl, inr, ⊎_elim, arith}
 use Rattle.std.proofs.lemmas.Bool.{both_ways, cases_Bool}
 use Rattle.measures.specs.Meaning.{MeasureMeaning}
 use Rattle.measures.specs.Laws.{Laws}
@@ -7,7 +7,7 @@ use Rattle.streets.specs.Meaning.{StreetMeaning}
 use Rattle.plans.specs.Job.{JobMeaning, Tree}
 use Rattle.plans.specs.Plans.{Plan, Score, Before, by_score, by_places}
 use Rattle.plans.specs.Laws.{OrderLaws}
-use Rattle.plans.proofs.Closure.{same_before}
+use Rattle.measures.proofs.Orders.{same_before, lower_chain}
 use Rattle.plans.proofs.Scores.{one, there, same_score}
 use Rattle.sets.specs.Placements.{Same, Earlier}
 use Rattle.sets.proofs.Places.{earlier_total, earlier_chain}
@@ -20,14 +20,8 @@ module _ {V : Type 0} (m : MeasureMeaning V) (laws : Laws m.nought m.joined m.be
   abbrev Lower : V → V → Type 0
   Lower u v = m.before v u ≡ false
 
-  lower_before : (u v : V) → Lower u v → m.before u v ≡ true
-  lower_before u v h = ⊎_elim (λ k. k) (λ k. absurd (both_ways _ h k)) (laws.total u v)
-
-  lower_chain : (u v w : V) → Lower u v → Lower v w → Lower u w
-  lower_chain u v w h k = ⊎_elim (λ t. absurd (both_ways _ k (laws.trans w u v t (lower_before u v h)))) (λ t. t) (cases_Bool (m.before w u))
-
   never_lower : (u v : V) → u ≡ v → Lower u v → ⊥
-  never_lower u v e h = both_ways (m.before v u) h (ap (m.before v) e ∙ same_before m laws v)
+  never_lower u v e h = both_ways (m.before v u) h (ap (m.before v) e ∙ same_before laws v)
 
   module _ (s : StreetMeaning) (j : JobMeaning) where
     -- a plan's score is one, so what two comparisons say of it can be put together
@@ -52,7 +46,7 @@ module _ {V : Type 0} (m : MeasureMeaning V) (laws : Laws m.nought m.joined m.be
     never_itself P Q tree same (by_places p q h) = earlier_differ j.stops P Q same h
 
     chain : (P Q R : ℕ → ℕ) → Before m s j P Q → Before m s j Q R → Before m s j P R
-    chain P Q R (by_score {u = u} {v = v} p q h) (by_score {u = v'} {v = w} q' r k) = by_score p r (lower_chain u v w h (subst (λ (x : V). Lower x w) (at Q q' q) k))
+    chain P Q R (by_score {u = u} {v = v} p q h) (by_score {u = v'} {v = w} q' r k) = by_score p r (lower_chain laws u v w h (subst (λ (x : V). Lower x w) (at Q q' q) k))
     chain P Q R (by_score {u = u} p q h) (by_places q' r k) = by_score p r (subst (λ (x : V). Lower u x) (at Q q q') h)
     chain P Q R (by_places p q h) (by_score {v = w} q' r k) = by_score p r (subst (λ (x : V). Lower x w) (at Q q' q) k)
     chain P Q R (by_places p q h) (by_places q' r k) = by_places p (subst (λ (x : V). Score m s j R x) (at Q q' q) r) (earlier_chain j.stops P Q R h k)
