@@ -2,9 +2,10 @@
 use Rattle.std.proofs.Common.{◌≡◌, ℕ, ◌+◌, ◌<◌, Bool, true, false, cond, ◌⊎◌, Some, None, Option, sym, refl, ap, ◌∙◌, subst, inl, inr, ⊎_elim, arith}
 use Rattle.measures.specs.Optional.{both}
 use Rattle.std.proofs.lemmas.Option.{none-some}
-use Rattle.std.proofs.lemmas.Bool.{both_ways, cases_lt}
+use Rattle.std.proofs.lemmas.Bool.{cases_lt}
 use Rattle.measures.specs.Meaning.{MeasureMeaning}
 use Rattle.measures.specs.Laws.{Laws}
+use Rattle.measures.proofs.Orders.{same_before, lower_before, mono_right}
 use Rattle.streets.specs.Meaning.{StreetMeaning}
 use Rattle.plans.specs.Walks.{direct}
 use Rattle.plans.specs.Between.{Via, leg, onward, Reaches, Best}
@@ -16,12 +17,6 @@ widen (leg e) = leg e
 widen (onward e l w) = onward e (omega arith) (widen w)
 
 module _ {V : Type 0} (m : MeasureMeaning V) (laws : Laws m.nought m.joined m.before) where
-  pub same_before : (x : V) → m.before x x ≡ true
-  same_before x = ⊎_elim (λ h. h) (λ h. h) (laws.total x x)
-
-  mono_right : (a b c : V) → m.before b c ≡ true → m.before (m.joined a b) (m.joined a c) ≡ true
-  mono_right a b c h = ap (λ (v : V). m.before v (m.joined a c)) (laws.comm a b) ∙ ap (m.before (m.joined b a)) (laws.comm a c) ∙ laws.mono b c a h
-
   -- joining in front makes nothing less
   not_less : (a b : V) → m.before b (m.joined a b) ≡ true
   not_less a b = ap (λ (v : V). m.before v (m.joined a b)) (sym (laws.zero_joined b)) ∙ laws.mono m.nought a b (laws.zero_least a)
@@ -31,7 +26,7 @@ module _ {V : Type 0} (m : MeasureMeaning V) (laws : Laws m.nought m.joined m.be
     where
       pick : (t : Bool) → m.before x y ≡ t → m.before (cond t x y) v ≡ true
       pick true e = h
-      pick false e = laws.trans y x v (⊎_elim (λ k. absurd (both_ways (m.before x y) e k)) (λ k. k) (laws.total x y)) h
+      pick false e = laws.trans y x v (lower_before laws y x e) h
   reach_left (Some x) None v h = h
   reach_left None q v h = absurd h
 
@@ -45,7 +40,7 @@ module _ {V : Type 0} (m : MeasureMeaning V) (laws : Laws m.nought m.joined m.be
   reach_right None q v h = h
 
   reach_both : (p q : Option V) (x y v : V) → Reaches m p x → Reaches m q y → m.before (m.joined x y) v ≡ true → Reaches m (both m.joined p q) v
-  reach_both (Some a) (Some b) x y v h k l = laws.trans (m.joined a b) (m.joined x y) v (laws.trans (m.joined a b) (m.joined x b) (m.joined x y) (laws.mono a x b h) (mono_right x b y k)) l
+  reach_both (Some a) (Some b) x y v h k l = laws.trans (m.joined a b) (m.joined x y) v (laws.trans (m.joined a b) (m.joined x b) (m.joined x y) (laws.mono a x b h) (mono_right laws x b y k)) l
   reach_both (Some a) None x y v h k l = absurd k
   reach_both None q x y v h k l = absurd h
 
@@ -87,19 +82,19 @@ module _ {V : Type 0} (m : MeasureMeaning V) (laws : Laws m.nought m.joined m.be
           second = p.second;
           to = onward e below p.to;
           from = p.from;
-          less = ap (λ (z : V). m.before z (m.joined v w)) (laws.assoc v p.first p.second) ∙ mono_right v (m.joined p.first p.second) w p.less;
+          less = ap (λ (z : V). m.before z (m.joined v w)) (laws.assoc v p.first p.second) ∙ mono_right laws v (m.joined p.first p.second) w p.less;
         }))
         (split t))
         (λ not-below. let q : c ≡ k = omega arith in
         let e' : direct m s a k ≡ Some v = ap (direct m s a) (sym q) ∙ e in
         ⊎_elim
-        (λ u. inr (record { first = v; second = w; to = leg e'; from = subst (λ (z : ℕ). Via m s k z b w) q u; less = same_before (m.joined v w) }))
+        (λ u. inr (record { first = v; second = w; to = leg e'; from = subst (λ (z : ℕ). Via m s k z b w) q u; less = same_before laws (m.joined v w) }))
         (λ (p : Parted k c b w). inr (record {
           first = v;
           second = p.second;
           to = leg e';
           from = p.from;
-          less = mono_right v p.second w (laws.trans p.second (m.joined p.first p.second) w (not_less p.first p.second) p.less);
+          less = mono_right laws v p.second w (laws.trans p.second (m.joined p.first p.second) w (not_less p.first p.second) p.less);
         }))
         (split t))
         (cases_lt c k)
@@ -124,5 +119,5 @@ module _ {V : Type 0} (m : MeasureMeaning V) (laws : Laws m.nought m.joined m.be
       none_below = λ v t. subst (λ (o : Option V). Reaches m o v) (sym e) (only_leg t);
     } where
       only_leg : {v : V} → Via m s 0 a b v → Reaches m (direct m s a b) v
-      only_leg {v} (leg h) = subst (λ (o : Option V). Reaches m o v) (sym h) (same_before v)
+      only_leg {v} (leg h) = subst (λ (o : Option V). Reaches m o v) (sym h) (same_before laws v)
       only_leg (onward h l t) = absurd (omega arith)

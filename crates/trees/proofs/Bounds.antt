@@ -1,8 +1,9 @@
 -- One stop more: the bound of a prefix is the least of the bounds of the prefixes one longer.
-use Rattle.std.proofs.Common.{◌≡◌, ℕ, zero, suc, ◌+◌, ◌<◌, ◌≤◌, true, false, cond, eqb, ltb, sym, refl, ap, ◌∙◌, subst, ap₂, inl, inr, ⊎_elim, arith}
-use Rattle.std.proofs.lemmas.Bool.{both_ways, cases_Bool, cases_lt, cases_eq, cond-true, cond-false, lt-ltb, eq-eqb, ne_eqb}
+use Rattle.std.proofs.Common.{◌≡◌, ℕ, zero, suc, ◌+◌, ◌<◌, ◌≤◌, true, cond, eqb, ltb, sym, refl, ap, ◌∙◌, subst, ap₂, inl, inr, ⊎_elim, arith}
+use Rattle.std.proofs.lemmas.Bool.{cases_Bool, cases_lt, cases_eq, cond-true, cond-false, lt-ltb, eq-eqb, ne_eqb}
 use Rattle.std.proofs.lemmas.Bool.Decides.{nat_tests}
 use Rattle.measures.specs.Laws.{Laws}
+use Rattle.measures.proofs.Orders.{same_before, lower_before, mono_right}
 use Rattle.measures.specs.Scales.{Scale, Sound, total}
 use Rattle.trees.specs.Tasks.{Task, put, score, Rooted, cost}
 use Rattle.trees.specs.Minima.{IsLeast, child, hanging, term, bound, besides}
@@ -20,9 +21,6 @@ module _ {W : Type 0} (σ : Scale W) (sound : Sound σ) where
 
   pub joined_zero : (a : W) → σ.joined a σ.nought ≡ a
   joined_zero a = sound.laws.comm a σ.nought ∙ sound.laws.zero_joined a
-
-  pub mono_right : (c a b : W) → σ.leq a b ≡ true → σ.leq (σ.joined c a) (σ.joined c b) ≡ true
-  mono_right c a b h = ap (λ v. σ.leq v (σ.joined c b)) (sound.laws.comm c a) ∙ ap (σ.leq (σ.joined a c)) (sound.laws.comm c b) ∙ sound.laws.mono a b c h
 
   pub total_same : (k : ℕ) (f g : ℕ → W) → ((s : ℕ) → s < k → f s ≡ g s) → total σ k f ≡ total σ k g
   unfolding total
@@ -54,7 +52,7 @@ module _ {W : Type 0} (σ : Scale W) (sound : Sound σ) where
   -- the least of values, each joined to one more
   pub least_joined : (n : ℕ) (f : ℕ → W) (w r : W) → IsLeast σ n f w → IsLeast σ n (λ q. σ.joined r (f q)) (σ.joined r w)
   least_joined n f w r least = record {
-    below = λ q l. mono_right r w (f q) (least.below q l);
+    below = λ q l. mono_right sound.laws r w (f q) (least.below q l);
     met = ⊎_elim (λ e. inl (ap (σ.joined r) e ∙ sound.absorbs r)) (λ p. inr (p.0, p.1, ap (σ.joined r) p.2)) least.met;
   }
 
@@ -145,13 +143,10 @@ least_more {W} σ sound i f w least = ⊎_elim
       met = ⊎_elim inl (λ p. let l = p.1 in inr (p.0, omega arith, p.2)) least.met;
     }))
     (λ t. subst (λ (v : W). IsLeast σ (i + 1) f v) (sym (cond-false _ w (f i) t)) (record {
-      below = λ q l. ⊎_elim (λ lt. sound.laws.trans (f i) w (f q) (other t) (least.below q lt)) (λ g. let d : i ≡ q = omega arith in subst (λ (k : ℕ). σ.leq (f i) (f k) ≡ true) d (⊎_elim (λ x. x) (λ x. x) (sound.laws.total (f i) (f i)))) (cases_lt q i);
+      below = λ q l. ⊎_elim (λ lt. sound.laws.trans (f i) w (f q) (lower_before sound.laws (f i) w t) (least.below q lt)) (λ g. let d : i ≡ q = omega arith in subst (λ (k : ℕ). σ.leq (f i) (f k) ≡ true) d (same_before sound.laws (f i))) (cases_lt q i);
       met = inr (i, omega arith, refl);
     }))
     (cases_Bool (σ.leq w (f i)))
-  where
-    other : σ.leq w (f i) ≡ false → σ.leq (f i) w ≡ true
-    other t = ⊎_elim (λ x. absurd (both_ways _ t x)) (λ x. x) (sound.laws.total w (f i))
 
 -- nothing is least among no values
 pub least_none : {W : Type 0} (σ : Scale W) (f : ℕ → W) → IsLeast σ 0 f σ.none

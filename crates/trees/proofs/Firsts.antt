@@ -2,22 +2,13 @@
 use Rattle.std.proofs.Common.{◌≡◌, ℕ, zero, suc, ◌+◌, ◌-◌, ◌<◌, ◌≤◌, Bool, true, false, eqb, ◌⊎◌, sym, refl, ap, ◌∙◌, subst, ap₂, inl, inr, ⊎_elim, arith}
 use Rattle.std.proofs.lemmas.Bool.{both_ways, cases_lt, cases_eq, cases_Bool, cases_order, cond-true, cond-false, eq-eqb, ne_eqb}
 use Rattle.measures.specs.Scales.{Scale, Sound}
+use Rattle.measures.proofs.Orders.{same_before}
 use Rattle.trees.specs.Tasks.{Task, put, score, Rooted, Placed, Before, LeastFrom}
 use Rattle.trees.specs.Minima.{IsLeast, MinimalFrom, Minimal, bound}
 use Rattle.trees.specs.Subspaces.{Subspace, In, Picked, Found, First, Split}
 use Rattle.trees.proofs.Bounds.{one_step, local, at_end}
 use Rattle.sets.specs.Placements.{Same}
-
--- two plans agree on the stops below k, or differ first at one of them
-pub differ : (k : ℕ) (P Q : ℕ → ℕ) → Same k P Q ⊎ ((i : ℕ) × (i < k) × Same i P Q × (P i ≡ Q i → ⊥))
-differ zero P Q = inl (λ s l. absurd (omega arith))
-differ (suc k) P Q = ⊎_elim
-    (λ same. ⊎_elim
-    (λ e. inl (λ s l. ⊎_elim (same s) (λ h. let d : s ≡ k = omega arith in ap P d ∙ e ∙ ap Q (sym d)) (cases_lt s k)))
-    (λ d. inr (k, omega arith, same, d))
-    (cases_eq (P k) (Q k)))
-    (λ p. let l = p.1 in inr (p.0, omega arith, p.2, p.3))
-    (differ k P Q)
+use Rattle.sets.proofs.Places.{differ}
 
 put_here : (P : ℕ → ℕ) (i q : ℕ) → put P i q i ≡ q
 put_here P i q = cond-true (eqb i i) q (P i) (eq-eqb i i refl)
@@ -34,18 +25,12 @@ put_agree P Q i q same e s l = ⊎_elim
 
 -- the bound of a prefix is the least score; only the table's rows from the prefix on count
 module _ {W : Type 0} (σ : Scale W) (sound : Sound σ) (τ : Task W) (H : ℕ → ℕ → W) (rooted : Rooted τ) (k : ℕ) (minimal : MinimalFrom σ τ k H) where
-  par_lt : (i : ℕ) → 0 < i → i < τ.m → τ.par i < i
-  par_lt i z l = rooted.1 i z l
-
-  same_leq : (a : W) → σ.leq a a ≡ true
-  same_leq a = ⊎_elim (λ h. h) (λ h. h) (sound.laws.total a a)
-
   pub up : (i : ℕ) (P : ℕ → ℕ) → k ≤ i → 0 < i → i < τ.m → ((s : ℕ) → s < i + 1 → P s < τ.n) → σ.leq (bound σ τ H i P) (bound σ τ H (i + 1) P) ≡ true
   up i P f z l placed = ap (σ.leq (bound σ τ H i P)) (local σ sound τ H rooted (i + 1) P (put P i (P i)) (omega arith) (λ s h. sym (put_agree P P i (P i) (λ _ _. refl) refl s h)))
-      ∙ (one_step σ sound τ H rooted i P z l (λ p pl. minimal i p f l pl) (placed (τ.par i) (let h = par_lt i z l in omega arith))).below (P i) (placed i (omega arith))
+      ∙ (one_step σ sound τ H rooted i P z l (λ p pl. minimal i p f l pl) (placed (τ.par i) (let h = rooted.1 i z l in omega arith))).below (P i) (placed i (omega arith))
 
   pub climb : (d i : ℕ) (Q : ℕ → ℕ) → k ≤ i → i + d ≡ τ.m → 0 < i → Placed τ Q → σ.leq (bound σ τ H i Q) (score σ τ Q) ≡ true
-  climb zero i Q f e z placed = let e' : i ≡ τ.m = omega arith in ap (λ y. σ.leq (bound σ τ H y Q) (score σ τ Q)) e' ∙ ap (λ v. σ.leq v (score σ τ Q)) (at_end σ sound τ H rooted Q) ∙ same_leq (score σ τ Q)
+  climb zero i Q f e z placed = let e' : i ≡ τ.m = omega arith in ap (λ y. σ.leq (bound σ τ H y Q) (score σ τ Q)) e' ∙ ap (λ v. σ.leq v (score σ τ Q)) (at_end σ sound τ H rooted Q) ∙ same_before sound.laws (score σ τ Q)
   climb (suc d) i Q f e z placed = sound.laws.trans _ _ _ (up i Q f z (omega arith) (λ s h. placed s (omega arith))) (climb d (i + 1) Q (omega arith) (omega arith) (omega arith) placed)
 
   -- how far it is to the end
@@ -64,7 +49,7 @@ module _ {W : Type 0} (σ : Scale W) (sound : Sound σ) (τ : Task W) (H : ℕ �
       (λ c. inr (c.0, c.1, (λ s l. sym (put_else P i p.0 s (λ d. omega arith)) ∙ c.2 s (omega arith)), c.3 ∙ p.2))
       (complete d (i + 1) (put P i p.0) (omega arith) (omega arith) (omega arith)
       (λ s l. ⊎_elim (λ h. subst (λ (q : ℕ). q < τ.n) (sym (ap (put P i p.0) h ∙ put_here P i p.0)) p.1) (λ h. subst (λ (q : ℕ). q < τ.n) (sym (put_else P i p.0 s h)) (placed s (⊎_elim (λ g. g) (λ g. absurd (h (omega arith))) (cases_lt s i)))) (cases_eq s i))))
-      (one_step σ sound τ H rooted i P z (omega arith) (λ p' pl. minimal i p' f (omega arith) pl) (placed (τ.par i) (par_lt i z (omega arith)))).met
+      (one_step σ sound τ H rooted i P z (omega arith) (λ p' pl. minimal i p' f (omega arith) pl) (placed (τ.par i) (rooted.1 i z (omega arith)))).met
 
   pub bound_is_least : (i : ℕ) (P : ℕ → ℕ) → k ≤ i → 0 < i → i ≤ τ.m → ((s : ℕ) → s < i → P s < τ.n) → LeastFrom σ τ i P (bound σ τ H i P)
   bound_is_least i P f z l placed = record {
@@ -73,9 +58,6 @@ module _ {W : Type 0} (σ : Scale W) (sound : Sound σ) (τ : Task W) (H : ℕ �
   }
 
 module _ {W : Type 0} (σ : Scale W) (sound : Sound σ) (τ : Task W) (H : ℕ → ℕ → W) (rooted : Rooted τ) (minimal : Minimal σ τ H) where
-  par_below : (i : ℕ) → 0 < i → i < τ.m → τ.par i < i
-  par_below i z l = rooted.1 i z l
-
   never_under : (i : ℕ) (P Q : ℕ → ℕ) → 0 < i → i ≤ τ.m → Same i P Q → Placed τ Q → σ.leq (bound σ τ H i P) (score σ τ Q) ≡ true
   never_under i P Q z = never_below σ sound τ H rooted 1 minimal i P Q (omega arith) z
 
@@ -115,7 +97,7 @@ module _ {W : Type 0} (σ : Scale W) (sound : Sound σ) (τ : Task W) (H : ℕ �
           (cases_lt k i);
     } where
       least : IsLeast σ τ.n (λ r. bound σ τ H (i + 1) (put P i r)) (bound σ τ H i P)
-      least = one_step σ sound τ H rooted i P (omega arith) l (λ p pl. minimal i p (omega arith) l pl) (found.placed (τ.par i) (par_below i (omega arith) l))
+      least = one_step σ sound τ H rooted i P (omega arith) l (λ p pl. minimal i p (omega arith) l pl) (found.placed (τ.par i) (rooted.1 i (omega arith) l))
 
       at_i : bound σ τ H i P ≡ v
       at_i = found.steady i jl (omega arith)
@@ -142,7 +124,7 @@ module _ {W : Type 0} (σ : Scale W) (sound : Sound σ) (τ : Task W) (H : ℕ �
         (λ e. subst (λ (k : ℕ). σ.leq S.worth (bound σ τ H (k + 1) (put S.places k r)) ≡ true) (sym e) (first.below r (subst (λ (k : ℕ). k < τ.m) e l) h (allowed e)))
         (λ d. let f = first.there some in let z : S.depth < i = ⊎_elim (λ g. g) (λ g. absurd (d (omega arith))) (cases_lt S.depth i) in
         ap (λ v. σ.leq v (bound σ τ H (i + 1) (put S.places i r))) (sym (f.steady i z (omega arith)))
-        ∙ (one_step σ sound τ H rooted i S.places (omega arith) l (λ p pl. minimal i p (omega arith) l pl) (f.placed (τ.par i) (let g = par_below i (omega arith) l in omega arith))).below r h)
+        ∙ (one_step σ sound τ H rooted i S.places (omega arith) l (λ p pl. minimal i p (omega arith) l pl) (f.placed (τ.par i) (let g = rooted.1 i (omega arith) l in omega arith))).below r h)
         (cases_eq i S.depth)
 
     pub empty : S.worth ≡ σ.none → (Q : ℕ → ℕ) → In τ S Q → score σ τ Q ≡ σ.none

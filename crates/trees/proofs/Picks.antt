@@ -1,7 +1,8 @@
 -- One place more in the search for the first least.
 use Rattle.std.proofs.Common.{◌≡◌, ℕ, ◌+◌, ◌<◌, Bool, true, false, refl, subst, ⊎_elim, arith}
-use Rattle.std.proofs.lemmas.Bool.{both_ways, cases_lt, cases_Bool}
+use Rattle.std.proofs.lemmas.Bool.{both_ways, cases_lt}
 use Rattle.measures.specs.Scales.{Scale, Sound}
+use Rattle.measures.proofs.Orders.{same_before, lower_before, lower_on}
 use Rattle.trees.specs.Subspaces.{Picked}
 
 module _ {W : Type 0} (σ : Scale W) (sound : Sound σ) (i : ℕ) (out : ℕ → Bool) (f : ℕ → W) (q : ℕ) (v : W) (p : Picked σ i out f q v) where
@@ -24,9 +25,7 @@ module _ {W : Type 0} (σ : Scale W) (sound : Sound σ) (i : ℕ) (out : ℕ →
 
   pub picked_move : out i ≡ false → σ.leq v (f i) ≡ false → Picked σ (i + 1) out f i (f i)
   picked_move o h = record {
-    below = more {P = λ r. out r ≡ false → σ.leq (f i) (f r) ≡ true} (λ r l k. sound.laws.trans _ v _ less (p.below r l k)) (λ k. ⊎_elim (λ x. x) (λ x. x) (sound.laws.total (f i) (f i)));
-    first = λ some r l k. ⊎_elim (λ t. absurd (both_ways _ h (sound.laws.trans v (f r) (f i) (p.below r l k) t))) (λ t. t) (cases_Bool (σ.leq (f r) (f i)));
+    below = more {P = λ r. out r ≡ false → σ.leq (f i) (f r) ≡ true} (λ r l k. sound.laws.trans _ v _ (lower_before sound.laws (f i) v h) (p.below r l k)) (λ k. same_before sound.laws (f i));
+    first = λ some r l k. lower_on sound.laws (f i) v (f r) h (p.below r l k);
     there = λ some. (omega arith, o, refl);
-  } where
-    less : σ.leq (f i) v ≡ true
-    less = ⊎_elim (λ x. absurd (both_ways _ h x)) (λ x. x) (sound.laws.total v (f i))
+  }

@@ -1,44 +1,28 @@
 -- One plan given: what is left is parted again.
-use Rattle.std.proofs.Common.{◌≡◌, ℕ, ◌+◌, ◌-◌, ◌<◌, ◌≤◌, true, false, cond, eqb, ◌⊎◌, List, [], ◌∷◌, sym, refl, ap, ◌∙◌, subst, ap₂, inl, inr, ⊎_elim, arith}
+use Rattle.std.proofs.Common.{◌≡◌, ℕ, ◌+◌, ◌-◌, ◌<◌, ◌≤◌, false, cond, eqb, ◌⊎◌, List, [], ◌∷◌, sym, refl, ap, ◌∙◌, subst, ap₂, inl, inr, ⊎_elim, arith}
 use Rattle.std.proofs.lemmas.Bool.{both_ways, cases_lt, cases_eq, cases_Bool, cases_order, cond-true, cond-false, eq-eqb, ne_eqb}
 use Rattle.std.proofs.lemmas.Bool.Decides.{nat_tests as tells}
 use Rattle.measures.specs.Scales.{Scale, Sound}
+use Rattle.measures.proofs.Orders.{lower_chain}
 use Rattle.trees.specs.Tasks.{Task, score, Rooted, Placed, Before, cost}
 use Rattle.trees.specs.Minima.{Minimal}
 use Rattle.trees.specs.Subspaces.{Subspace, In, First, Split}
 use Rattle.trees.specs.Rounds.{Unlike, AllBefore, InOrder, FirstLeft, NoneLeft, InTurn, nothing, next, Partition, Chosen, Parted}
-use Rattle.trees.proofs.Bounds.{total_same}
+use Rattle.trees.proofs.Bounds.{par_le, total_same}
 use Rattle.trees.proofs.Firsts.{true_score, itself, others, falls, empty}
-use Rattle.sets.specs.Placements.{Same, Earlier}
+use Rattle.sets.specs.Placements.{Same}
+use Rattle.sets.proofs.Places.{earlier_chain}
 
 module _ {W : Type 0} (σ : Scale W) (sound : Sound σ) (τ : Task W) where
-  leq_false : (a b c : W) → σ.leq b a ≡ false → σ.leq b c ≡ true → σ.leq c a ≡ false
-  leq_false a b c h k = ⊎_elim (λ t. absurd (both_ways _ h (sound.laws.trans b c a k t))) (λ t. t) (cases_Bool (σ.leq c a))
-
-  other_way : (a b : W) → σ.leq b a ≡ false → σ.leq a b ≡ true
-  other_way a b h = ⊎_elim (λ t. t) (λ t. absurd (both_ways _ h t)) (sound.laws.total a b)
-
-  earlier_trans : (m : ℕ) (P Q R : ℕ → ℕ) → Earlier m P Q → Earlier m Q R → Earlier m P R
-  earlier_trans m P Q R a b = ⊎_elim
-      (λ e. (a.0, a.1, (λ s l. a.2 s l ∙ b.2 s (omega arith)), let h : Q a.0 < R a.0 = subst (λ (s : ℕ). Q s < R s) (sym e) b.3 in let k = a.3 in omega arith))
-      (λ o. ⊎_elim
-      (λ h. (a.0, a.1, (λ s l. a.2 s l ∙ b.2 s (omega arith)), subst (λ (q : ℕ). P a.0 < q) (b.2 a.0 h) a.3))
-      (λ h. (b.0, b.1, (λ s l. a.2 s (omega arith) ∙ b.2 s l), subst (λ (p : ℕ). p < R b.0) (sym (a.2 b.0 h)) b.3))
-      o)
-      (cases_order a.0 b.0)
-
   pub before_trans : (P Q R : ℕ → ℕ) → Before σ τ P Q → Before σ τ Q R → Before σ τ P R
   before_trans P Q R a b = ⊎_elim
-      (λ p. ⊎_elim (λ q. inl (leq_false _ _ _ p (other_way _ _ q))) (λ q. inl (ap (λ v. σ.leq v (score σ τ P)) (sym q.0) ∙ p)) b)
-      (λ p. ⊎_elim (λ q. inl (ap (σ.leq (score σ τ R)) p.0 ∙ q)) (λ q. inr (p.0 ∙ q.0, earlier_trans τ.m P Q R p.1 q.1)) b)
+      (λ p. ⊎_elim (λ q. inl (lower_chain sound.laws _ _ _ p q)) (λ q. inl (ap (λ v. σ.leq v (score σ τ P)) (sym q.0) ∙ p)) b)
+      (λ p. ⊎_elim (λ q. inl (ap (σ.leq (score σ τ R)) p.0 ∙ q)) (λ q. inr (p.0 ∙ q.0, earlier_chain τ.m P Q R p.1 q.1)) b)
       a
 
   same_score : (P Q : ℕ → ℕ) → Rooted τ → Same τ.m P Q → score σ τ P ≡ score σ τ Q
   unfolding score
-  same_score P Q rooted same = total_same σ sound τ.m _ _ (λ s l. ap₂ (cost σ τ s) (same (τ.par s) (par_in s l)) (same s l))
-    where
-      par_in : (s : ℕ) → s < τ.m → τ.par s < τ.m
-      par_in s l = ⊎_elim (λ z. let e : τ.par s ≡ 0 = ap τ.par z ∙ rooted.0 in omega arith) (λ z. let h = rooted.1 s (⊎_elim (λ g. g) (λ g. absurd (z (omega arith))) (cases_lt 0 s)) l in omega arith) (cases_eq s 0)
+  same_score P Q rooted same = total_same σ sound τ.m _ _ (λ s l. ap₂ (cost σ τ s) (same (τ.par s) (let h = par_le τ rooted s l in omega arith)) (same s l))
 
   before_right : (P Q R : ℕ → ℕ) → Rooted τ → Before σ τ P Q → Same τ.m Q R → Before σ τ P R
   before_right P Q R rooted b same = ⊎_elim

@@ -3,10 +3,11 @@ use Rattle.std.proofs.Common.{◌≡◌, ℕ, zero, suc, ◌+◌, ◌<◌, ◌�
 use Rattle.std.proofs.lemmas.Bool.{cases_Bool, cases_lt, cases_eq, cond-true, cond-false, eq-eqb, ne_eqb, or_right}
 use Rattle.std.proofs.lemmas.Bool.Decides.{nat_tests}
 use Rattle.measures.specs.Scales.{Scale, Sound, total}
+use Rattle.measures.proofs.Orders.{mono_right}
 use Rattle.trees.specs.Tasks.{Task, score, Rooted, cost, LeastOf}
 use Rattle.trees.specs.Minima.{child, hanging, MinimalFrom, Minimal, term, bound}
 use Rattle.trees.specs.Subtrees.{leads, in_subtree, beneath, part, subtree_value, hung_value}
-use Rattle.trees.proofs.Bounds.{par_le, root_par, joined_zero, mono_right, total_same, total_joined, total_noughts, total_one, least_same}
+use Rattle.trees.proofs.Bounds.{par_le, root_par, joined_zero, total_same, total_joined, total_noughts, total_one, least_same}
 use Rattle.trees.proofs.Firsts.{bound_is_least}
 use Rattle.sets.specs.Placements.{Same}
 
@@ -136,7 +137,7 @@ module _ {W : Type 0} (σ : Scale W) (sound : Sound σ) (τ : Task W) (H : ℕ �
     pub subtree_least : (q : ℕ) → q < τ.n → LeastOf σ τ (λ Q. Q s ≡ q) (subtree_value σ τ s) (σ.joined (τ.own s q) (hanging σ τ H s q))
     subtree_least q h = record {
       lower = λ Q r e. ap (λ x. σ.leq (σ.joined (τ.own s x) (hanging σ τ H s x)) (subtree_value σ τ s Q)) (sym e)
-          ∙ mono_right σ sound (τ.own s (Q s)) _ _ (ap (λ v. σ.leq v (part σ τ (beneath τ s) Q)) (sym (beneath_bound Q)) ∙ (least_only (beneath τ s) (s + 1) closed_beneath Q (omega arith) (omega arith) (λ c k. r c (omega arith))).lower Q r (λ _ _. refl));
+          ∙ mono_right sound.laws (τ.own s (Q s)) _ _ (ap (λ v. σ.leq v (part σ τ (beneath τ s) Q)) (sym (beneath_bound Q)) ∙ (least_only (beneath τ s) (s + 1) closed_beneath Q (omega arith) (omega arith) (λ c k. r c (omega arith))).lower Q r (λ _ _. refl));
       reached = ⊎_elim
           (λ e. inl (ap (σ.joined (τ.own s q)) (sym (beneath_bound (λ _. q)) ∙ e) ∙ sound.absorbs (τ.own s q)))
           (λ r. let there : r.0 s ≡ q = sym (r.2 s (omega arith)) in inr (r.0, r.1, there, ap₂ (λ x v. σ.joined (τ.own s x) v) there (r.3 ∙ beneath_bound (λ _. q))))

@@ -2,9 +2,10 @@
 use Rattle.std.proofs.Common.{◌≡◌, false, inl, inr, ⊎_elim, arith}
 use Rattle.measures.specs.Scales.{Scale, Sound}
 use Rattle.trees.specs.Statements.{BoundIsLeast, MinimaAreLeast, FirstComesFirst, SplitLosesNothing, SplitKeepsPartition}
-use Rattle.trees.proofs.Firsts.{bound_is_least, differ, true_score, itself, others, falls, empty}
+use Rattle.trees.proofs.Firsts.{bound_is_least, true_score, itself, others, falls, empty}
 use Rattle.trees.proofs.Subtrees.{subtree_least, hung_least}
 use Rattle.trees.proofs.Rounds.{part_in, one_place, step}
+use Rattle.sets.proofs.Places.{differ}
 
 module _ {W : Type 0} (σ : Scale W) (sound : Sound σ) where
   pub bounds : BoundIsLeast σ
