@@ -6,7 +6,7 @@ ghost use Rattle.leaders.specs.Leaders.{Earliest, Exchanged, Led, Promoted, Rows
 
 use cells::cell::Cell;
 use least::TotalOrder;
-use measures::Measure;
+use measures::{Measure, laws};
 use tables::access::{cell_at, set_entry};
 use waiting::picking::{first_in, least_in};
 use waiting::queue::Entries;
@@ -106,5 +106,6 @@ where
     ensures ready { let e = entries.now in (n rows : ℕ) → Rows cells.now e.base n e.m e.k rows → IfSome result (λ w. (w ≤ rows) × Placed n e.m (entry_in cells.now (e.base + w))) }
     ensures plan { let e = entries.now in HeadPlan M.Measure.meaning cells.now e.base e.m e.k result }
 {
+    laws::<M>();
     first_in::<M>(cells, entries.base, entries.k)
 }

@@ -35,15 +35,15 @@ module _ {M V : Type 0} (cells : List (Cell M V)) (n a b i : ℕ) (at : i ≡ a 
 
   pub same_legs : x.leg ≡ (get_or cells i blank).leg → SameLegs n cells (set cells i x)
   unfolding leg_in
-  same_legs e c d = same_part (λ c. c.leg) cells i x within e (c * n + d)
+  same_legs e c d = same_part (λ c. c.leg) cells i x e (c * n + d)
 
   pub same_rides : x.ride ≡ (get_or cells i blank).ride → (c d : ℕ) → ride_in (set cells i x) n c d ≡ ride_in cells n c d
   unfolding ride_in
-  same_rides e c d = same_part (λ c. c.ride) cells i x within e (c * n + d)
+  same_rides e c d = same_part (λ c. c.ride) cells i x e (c * n + d)
 
   pub same_kinds : x.kind ≡ (get_or cells i blank).kind → SameKinds n cells (set cells i x)
   unfolding kind_in
-  same_kinds e p = same_part (λ c. c.kind) cells i x within e (p * n + p)
+  same_kinds e p = same_part (λ c. c.kind) cells i x e (p * n + p)
 
 -- one write after another into the same cell: the leg by the first, the ride by the second
 module _ {M V : Type 0} (cells : List (Cell M V)) (n a b i : ℕ) (at : i ≡ a * n + b) (within : i < length cells) (hb : b < n) (x y d e : Cell M V) where

@@ -1,12 +1,12 @@
 -- The table at the start, pair by pair, and the rides at the end.
-use Rattle.std.proofs.Common.{◌≡◌, ℕ, ◌+◌, ◌*◌, ◌<◌, ◌≤◌, List, map, length, get_or, Ok, Err, sym, refl, ap, ◌∙◌, subst, inl}
+use Rattle.std.proofs.Common.{◌≡◌, ℕ, ◌+◌, ◌*◌, ◌<◌, ◌≤◌, List, map, length, Ok, Err, refl, ◌∙◌, subst, inl}
 use Rattle.measures.specs.Meaning.{MeasureMeaning}
 use Rattle.measures.specs.Laws.{Laws}
 use Rattle.streets.specs.Meaning.{StreetMeaning, Sound}
 use Rattle.plans.proofs.Closure.{best_start}
 use Rattle.plans.proofs.Rides.{best_ride}
-use Rattle.tables.specs.Tables.{blank, leg_in, ride_in, kind_in}
-use Rattle.std.proofs.Math.ListN.{get_or-map}
+use Rattle.tables.specs.Tables.{leg_in, ride_in, kind_in}
+use Rattle.tables.proofs.Reading.{same_mapped}
 use Rattle.cells.specs.declared.cell.Cell.{Cell}
 use Rattle.rides.specs.Cells.{Fills}
 use Rattle.rides.specs.declared.table.TooFewCells.{TooFewCells}
@@ -18,16 +18,13 @@ module _ {M V : Type 0} (m : MeasureMeaning V) (s : StreetMeaning) (n : ℕ) whe
 
 -- a part that is the same in each cell
 module _ {M V : Type 0} (old new : List (Cell M V)) where
-  same_part : {X : Type 0} (part : Cell M V → X) → map part new ≡ map part old → (k : ℕ) → part (get_or new k blank) ≡ part (get_or old k blank)
-  same_part part e k = sym (get_or-map part new k blank) ∙ ap (λ xs. get_or xs k (part blank)) e ∙ get_or-map part old k blank
-
   same_leg : (n a b : ℕ) → map (λ (c : Cell M V). c.leg) new ≡ map (λ (c : Cell M V). c.leg) old → leg_in new n a b ≡ leg_in old n a b
   unfolding leg_in
-  same_leg n a b e = same_part (λ c. c.leg) e (a * n + b)
+  same_leg n a b e = same_mapped (λ c. c.leg) old new e (a * n + b)
 
   same_kind : (n p : ℕ) → map (λ (c : Cell M V). c.kind) new ≡ map (λ (c : Cell M V). c.kind) old → kind_in new n p ≡ kind_in old n p
   unfolding kind_in
-  same_kind n p e = same_part (λ c. c.kind) e (p * n + p)
+  same_kind n p e = same_mapped (λ c. c.kind) old new e (p * n + p)
 
 -- what the steps have come to: the legs and kinds from the start, the rides from the closure
 abbrev pub Done : {M V : Type 0} → MeasureMeaning V → StreetMeaning → ℕ → List (Cell M V) → List (Cell M V) → List (Cell M V) → Type 0

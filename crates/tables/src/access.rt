@@ -74,7 +74,7 @@ pub fn stop_at<M, V: Copy>(
 // Writes a stop's own value into a cell; nothing else changes. There are four writers, since a contract names the field that
 // is written; a function that lends the cell to be written would leave what is written to a proof at each caller. They stand
 // beside the methods of a board, since they write any cell, with no board.
-#[tactic(auto, using(crate::proofs::Reading::there_set, crate::proofs::Reading::other_set, crate::proofs::Reading::same_there, crate::proofs::Reading::owns_only))]
+#[tactic(auto, using(crate::proofs::Reading::cell_written, crate::proofs::Reading::owns_only))]
 pub fn set_own<M, V: Copy>(cells: &mut [Cell<M, V>], at: usize, value: Option<V>)
     requires { at < length cells.old }
     ensures { OwnWritten at value cells.old cells.new }
@@ -83,7 +83,7 @@ pub fn set_own<M, V: Copy>(cells: &mut [Cell<M, V>], at: usize, value: Option<V>
 }
 
 // Writes the least value of a subtree into a cell; nothing else changes.
-#[tactic(auto, using(crate::proofs::Reading::there_set, crate::proofs::Reading::other_set, crate::proofs::Reading::same_there, crate::proofs::Reading::stays_set, crate::proofs::Reading::hang_same))]
+#[tactic(auto, using(crate::proofs::Reading::cell_written, crate::proofs::Reading::stays_set, crate::proofs::Reading::hang_same))]
 pub fn set_best<M, V: Copy>(cells: &mut [Cell<M, V>], at: usize, value: Option<V>)
     requires { at < length cells.old }
     ensures { BestWritten at value cells.old cells.new }
@@ -92,7 +92,7 @@ pub fn set_best<M, V: Copy>(cells: &mut [Cell<M, V>], at: usize, value: Option<V
 }
 
 // Writes the least value of a link and a subtree into a cell; nothing else changes.
-#[tactic(auto, using(crate::proofs::Reading::there_set, crate::proofs::Reading::other_set, crate::proofs::Reading::same_there, crate::proofs::Reading::stays_set, crate::proofs::Reading::best_same))]
+#[tactic(auto, using(crate::proofs::Reading::cell_written, crate::proofs::Reading::stays_set, crate::proofs::Reading::best_same))]
 pub fn set_hang<M, V: Copy>(cells: &mut [Cell<M, V>], at: usize, value: Option<V>)
     requires { at < length cells.old }
     ensures { HangWritten at value cells.old cells.new }
@@ -101,7 +101,7 @@ pub fn set_hang<M, V: Copy>(cells: &mut [Cell<M, V>], at: usize, value: Option<V
 }
 
 // Writes a waiting subspace into a cell; nothing else changes.
-#[tactic(auto, using(crate::proofs::Reading::there_set, crate::proofs::Reading::other_set, crate::proofs::Reading::same_there), unfolding(crate::specs::Tables::entry_in))]
+#[tactic(auto, using(crate::proofs::Reading::cell_written), unfolding(crate::specs::Tables::entry_in))]
 pub fn set_entry<M, V: Copy>(cells: &mut [Cell<M, V>], at: usize, entry: Entry<V>)
     requires { at < length cells.old }
     ensures { EntryWritten at entry cells.old cells.new }

@@ -1,5 +1,4 @@
 ghost use Rattle.std.specs.Prelude.{◌≡◌, ℕ, ◌+◌, ◌*◌, ◌<◌, ◌≤◌, true, length, IfSome, None, MatchOption, ◌≢◌};
-ghost use Rattle.measures.specs.Laws.{Laws};
 ghost use Rattle.cells.specs.Cells.{entry_before};
 ghost use Rattle.tables.specs.Tables.{entry_in};
 ghost use Rattle.waiting.specs.Queues.{row_start, Placed, Queue, FirstWaiting, NextPlan};
@@ -7,7 +6,7 @@ ghost use Rattle.waiting.specs.Queues.{row_start, Placed, Queue, FirstWaiting, N
 use crate::queue::Entries;
 use cells::cell::Cell;
 use least::least_of;
-use measures::Measure;
+use measures::{Measure, laws};
 use tables::access::cell_at;
 
 // The least of the waiting subspaces in the cells from one to another, counted from the first of them; none where
@@ -27,7 +26,7 @@ where
 }
 
 // Of the waiting subspaces in so many cells from one on, the one whose plan comes first, counted from the first of them;
-// none where none has a plan. The clause `laws` repeats what every measure keeps: the check does not look it up in a bound.
+// none where none has a plan.
 #[tactic(auto, using(crate::proofs::Leasts::none_behind, crate::proofs::Leasts::none_waits))]
 pub fn first_in<'a, M: Measure>(
     cells: &'a [Cell<M, M::Value>],
@@ -38,8 +37,7 @@ where
     M: 'a,
     M::Value: 'a,
     requires { from + count ≤ length cells.now }
-    ensures first { FirstWaiting M.Measure.meaning cells.now from count result }
-    ensures laws { let m = M.Measure.meaning in Laws m.nought m.joined m.before }
+    ensures { FirstWaiting M.Measure.meaning cells.now from count result }
 {
     let w = least_in::<M>(cells, from, from + count)?;
     cell_at(cells, from + w).entry.score.map(|_| w)
@@ -57,6 +55,7 @@ impl Entries {
         ensures ready { let e = self.now in (n rows : ℕ) → Queue cells.now e.base n e.m e.k rows → IfSome result (λ w. (w < row_start e.m e.k rows) × Placed n e.m (entry_in cells.now (e.base + w))) }
         ensures plan { let e = self.now in NextPlan M.Measure.meaning cells.now e.base e.m e.k result }
     {
+        laws::<M>();
         first_in::<M>(cells, self.base, self.k * self.m)
     }
 }
