@@ -10,11 +10,15 @@ use Rattle.trees.specs.Minima.{IsLeast, child, hanging, term, bound, besides}
 pub use Rattle.sets.proofs.Places.{more}
 
 module _ {W : Type 0} (τ : Task W) (rooted : Rooted τ) where
-  pub par_le : (s : ℕ) → s < τ.m → τ.par s ≤ s
-  par_le s l = ⊎_elim (λ z. let e : τ.par s ≡ 0 = ap τ.par z ∙ rooted.0 in omega arith) (λ z. let h = rooted.1 s (⊎_elim (λ g. g) (λ g. absurd (z (omega arith))) (cases_lt 0 s)) l in omega arith) (cases_eq s 0)
-
   pub root_par : (s : ℕ) → s ≡ 0 → τ.par s ≡ 0
   root_par s e = ap τ.par e ∙ rooted.0
+
+  -- a stop's parent is before it, or both are the root
+  pub par_fits : (d s : ℕ) → s < τ.m → s ≤ suc d → τ.par s ≤ d
+  par_fits d s l h = ⊎_elim (λ z. let p = rooted.1 s z l in omega arith) (λ z. let p = root_par s (omega arith) in omega arith) (cases_lt 0 s)
+
+  pub par_le : (s : ℕ) → s < τ.m → τ.par s ≤ s
+  par_le s l = par_fits s s l (omega arith)
 
 module _ {W : Type 0} (σ : Scale W) (sound : Sound σ) where
   laws : Laws σ.nought σ.joined σ.leq
