@@ -8,13 +8,13 @@ use Rattle.measures.specs.Scales.{optional}
 use Rattle.jobs.specs.Jobs.{stops_of}
 use Rattle.trees.specs.Minima.{IsLeast}
 use Rattle.trees.proofs.Lift.{lifted}
-use Rattle.trees.proofs.Bounds.{least_same}
+use Rattle.trees.proofs.Bounds.{least_same, more}
 use Rattle.tables.specs.Tables.{own_in, best_in, hang_in, Stays, BestWritten, HangWritten}
 use Rattle.minima.specs.Tables.{link_in, hanging_in, RowIn}
 use Rattle.minima.specs.Boards.{stop_cell, Shows, SameBoard, BestTo, HangTo}
 use Rattle.minima.specs.declared.board.Board.{Board}
 use Rattle.minima.specs.declared.board.BoardMut.{BoardMut}
-use Rattle.minima.proofs.Rows.{stays_none, stays_both, best_else, best_there, hang_else, hang_there, own_stays, link_stays, best_stays, hang_stays, hanging_stays, row_made, row_stays, more}
+use Rattle.minima.proofs.Rows.{stays_none, stays_both, best_else, best_there, hang_else, hang_there, own_stays, link_stays, best_stays, hang_stays, hanging_stays, row_made, row_stays}
 
 module _ {M V : Type 0} where
   pub same_none : (b : BoardMut M V) → SameBoard b b

@@ -2,7 +2,7 @@
 use Rattle.std.proofs.Common.{◌≡◌, ℕ, ◌+◌, ◌*◌, ◌/◌, ◌%◌, ◌<◌, ◌≤◌, true, false, cond, ◌&&◌, eqb, ltb, ◌⊎◌, List, length, get_or, Some, Option, sym, refl, ap, ◌∙◌, subst, ap₂, ⊎_elim, arith}
 use Rattle.measures.specs.Optional.{both}
 use Rattle.std.proofs.lemmas.Nat.{div-mul-add, mod-mul-add}
-use Rattle.std.proofs.lemmas.Bool.{cases_lt, cases_Bool, cond-false, ne_eqb}
+use Rattle.std.proofs.lemmas.Bool.{cases_Bool, cond-false, ne_eqb}
 use Rattle.std.proofs.lemmas.Bool.Decides.{nat_tests}
 use Rattle.measures.specs.Laws.{Laws}
 use Rattle.measures.specs.Meaning.{MeasureMeaning}
@@ -32,10 +32,6 @@ same_place n s q t r h k e = let d : s * n + q ≡ t * n + r = omega arith in sy
 -- the same number of values under another name
 pub least_at : {W : Type 0} {σ : Scale W} {n k : ℕ} {f : ℕ → W} {w : W} → k ≡ n → IsLeast σ n f w → IsLeast σ k f w
 least_at {W} {σ} {n} {k} {f} {w} e least = subst (λ (i : ℕ). IsLeast σ i f w) (sym e) least
-
--- one more of those below
-pub more : (P : ℕ → Type 0) (i : ℕ) → ((u : ℕ) → u < i → P u) → P i → (u : ℕ) → u < i + 1 → P u
-more P i h e u l = ⊎_elim (h u) (λ g. let d : i ≡ u = omega arith in subst P d e) (cases_lt u i)
 
 module _ {M V : Type 0} where
   pub stays_both : (a b c : List (Cell M V)) → Stays a b → Stays b c → Stays a c

@@ -7,13 +7,18 @@ use Rattle.measures.proofs.Orders.{same_before, lower_before, mono_right}
 use Rattle.measures.specs.Scales.{Scale, Sound, total}
 use Rattle.trees.specs.Tasks.{Task, put, score, Rooted, cost}
 use Rattle.trees.specs.Minima.{IsLeast, child, hanging, term, bound, besides}
+pub use Rattle.sets.proofs.Places.{more}
 
 module _ {W : Type 0} (τ : Task W) (rooted : Rooted τ) where
-  pub par_le : (s : ℕ) → s < τ.m → τ.par s ≤ s
-  par_le s l = ⊎_elim (λ z. let e : τ.par s ≡ 0 = ap τ.par z ∙ rooted.0 in omega arith) (λ z. let h = rooted.1 s (⊎_elim (λ g. g) (λ g. absurd (z (omega arith))) (cases_lt 0 s)) l in omega arith) (cases_eq s 0)
-
   pub root_par : (s : ℕ) → s ≡ 0 → τ.par s ≡ 0
   root_par s e = ap τ.par e ∙ rooted.0
+
+  -- a stop's parent is before it, or both are the root
+  pub par_fits : (d s : ℕ) → s < τ.m → s ≤ suc d → τ.par s ≤ d
+  par_fits d s l h = ⊎_elim (λ z. let p = rooted.1 s z l in omega arith) (λ z. let p = root_par s (omega arith) in omega arith) (cases_lt 0 s)
+
+  pub par_le : (s : ℕ) → s < τ.m → τ.par s ≤ s
+  par_le s l = par_fits s s l (omega arith)
 
 module _ {W : Type 0} (σ : Scale W) (sound : Sound σ) where
   laws : Laws σ.nought σ.joined σ.leq
@@ -139,11 +144,11 @@ module _ {W : Type 0} (σ : Scale W) (sound : Sound σ) where
 pub least_more : {W : Type 0} (σ : Scale W) (sound : Sound σ) (i : ℕ) (f : ℕ → W) (w : W) → IsLeast σ i f w → IsLeast σ (i + 1) f (cond (σ.leq w (f i)) w (f i))
 least_more {W} σ sound i f w least = ⊎_elim
     (λ t. subst (λ (v : W). IsLeast σ (i + 1) f v) (sym (cond-true _ w (f i) t)) (record {
-      below = λ q l. ⊎_elim (least.below q) (λ g. let d : i ≡ q = omega arith in subst (λ (k : ℕ). σ.leq w (f k) ≡ true) d t) (cases_lt q i);
+      below = more (λ q. σ.leq w (f q) ≡ true) i least.below t;
       met = ⊎_elim inl (λ p. let l = p.1 in inr (p.0, omega arith, p.2)) least.met;
     }))
     (λ t. subst (λ (v : W). IsLeast σ (i + 1) f v) (sym (cond-false _ w (f i) t)) (record {
-      below = λ q l. ⊎_elim (λ lt. sound.laws.trans (f i) w (f q) (lower_before sound.laws (f i) w t) (least.below q lt)) (λ g. let d : i ≡ q = omega arith in subst (λ (k : ℕ). σ.leq (f i) (f k) ≡ true) d (same_before sound.laws (f i))) (cases_lt q i);
+      below = more (λ q. σ.leq (f i) (f q) ≡ true) i (λ q l. sound.laws.trans (f i) w (f q) (lower_before sound.laws (f i) w t) (least.below q l)) (same_before sound.laws (f i));
       met = inr (i, omega arith, refl);
     }))
     (cases_Bool (σ.leq w (f i)))

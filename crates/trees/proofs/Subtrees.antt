@@ -1,20 +1,17 @@
 -- The minima of a subtree are the least over all places: the bound law, with nothing asked of the stops outside.
 use Rattle.std.proofs.Common.{◌≡◌, ℕ, zero, suc, ◌+◌, ◌<◌, ◌≤◌, Bool, true, false, cond, not, ◌&&◌, ◌||◌, eqb, sym, refl, ap, ◌∙◌, ap₂, inl, inr, ⊎_elim, arith}
-use Rattle.std.proofs.lemmas.Bool.{cases_Bool, cases_lt, cases_eq, cond-true, cond-false, eq-eqb, ne_eqb, or_right}
+use Rattle.std.proofs.lemmas.Bool.{cases_Bool, cond-true, cond-false, eq-eqb, ne_eqb, or_right}
 use Rattle.std.proofs.lemmas.Bool.Decides.{nat_tests}
 use Rattle.measures.specs.Scales.{Scale, Sound, total}
 use Rattle.measures.proofs.Orders.{mono_right}
 use Rattle.trees.specs.Tasks.{Task, score, Rooted, cost, LeastOf}
 use Rattle.trees.specs.Minima.{child, hanging, MinimalFrom, Minimal, term, bound}
 use Rattle.trees.specs.Subtrees.{leads, in_subtree, beneath, part, subtree_value, hung_value}
-use Rattle.trees.proofs.Bounds.{par_le, root_par, joined_zero, total_same, total_joined, total_noughts, total_one, least_same}
+use Rattle.trees.proofs.Bounds.{par_le, par_fits, joined_zero, total_same, total_joined, total_noughts, total_one, least_same}
 use Rattle.trees.proofs.Firsts.{bound_is_least}
 use Rattle.sets.specs.Placements.{Same}
 
 module _ {W : Type 0} (τ : Task W) (rooted : Rooted τ) where
-  par_fits : (d c : ℕ) → c < τ.m → c ≤ suc d → τ.par c ≤ d
-  par_fits d c l h = ⊎_elim (λ z. let p = root_par τ rooted c z in omega arith) (λ z. let p = rooted.1 c (⊎_elim (λ g. g) (λ g. absurd (z (omega arith))) (cases_lt 0 c)) l in omega arith) (cases_eq c 0)
-
   -- a stop leads where its parent does
   steps : (d s c : ℕ) → c < τ.m → c ≤ d → leads τ d s c ≡ (eqb c s || leads τ d s (τ.par c))
   unfolding leads
@@ -23,7 +20,7 @@ module _ {W : Type 0} (τ : Task W) (rooted : Rooted τ) where
       or_same : (a b : Bool) → b ≡ a → a ≡ (a || b)
       or_same true b e = refl
       or_same false b e = sym e
-  steps (suc d) s c l h = ap (λ b. eqb c s || b) (steps d s (τ.par c) (let p = par_le τ rooted c l in omega arith) (par_fits d c l h))
+  steps (suc d) s c l h = ap (λ b. eqb c s || b) (steps d s (τ.par c) (let p = par_le τ rooted c l in omega arith) (par_fits τ rooted d c l h))
 
   -- no stop leads to one with a greater number
   never_up : (d s c : ℕ) → c < τ.m → c < s → leads τ d s c ≡ false
@@ -35,7 +32,7 @@ module _ {W : Type 0} (τ : Task W) (rooted : Rooted τ) where
   to_root : (d c : ℕ) → c < τ.m → c ≤ d → leads τ d 0 c ≡ true
   unfolding leads
   to_root zero c l h = eq-eqb c 0 (omega arith)
-  to_root (suc d) c l h = or_right (eqb c 0) _ (to_root d (τ.par c) (let p = par_le τ rooted c l in omega arith) (par_fits d c l h))
+  to_root (suc d) c l h = or_right (eqb c 0) _ (to_root d (τ.par c) (let p = par_le τ rooted c l in omega arith) (par_fits τ rooted d c l h))
 
   pub in_by_parent : (s c : ℕ) → c < τ.m → in_subtree τ s c ≡ (eqb c s || in_subtree τ s (τ.par c))
   in_by_parent s c l = steps τ.m s c l (omega arith)

@@ -13,7 +13,7 @@ use Rattle.tables.specs.Tables.{blank, entry_in, Kept, EntryWritten}
 use Rattle.minima.specs.Boards.{Shows, SameBoard}
 use Rattle.minima.specs.declared.board.Board.{Board}
 use Rattle.minima.specs.declared.board.BoardMut.{BoardMut}
-use Rattle.minima.proofs.Rows.{more}
+use Rattle.sets.proofs.Places.{more}
 use Rattle.waiting.specs.Queues.{FirstOver, Part, Safe}
 use Rattle.waiting.proofs.Keeping.{tables_kept, same_entry}
 
