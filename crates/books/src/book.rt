@@ -10,7 +10,8 @@ use streets::legs::LegRecord;
 use streets::list::{MOST_PLACES, MOST_RECORDS};
 use texts::length::check_length;
 
-// The first pass: how much the lines tell, or the first refused line's fault. Nothing is written.
+// The first pass: how much the lines tell, or the first refused line's fault. Nothing is written. Each pass makes its `Entries`
+// of the text and the room, so these are handed on as two.
 fn judge(text: &[u8], room: Room) -> Result<Counts, LineFault>
     ensures within { IfOk result (λ c. (c.places ≤ room.kinds) × (c.legs ≤ room.legs)) }
     ensures value { result ≡ state_after (book_lines room) (countsOf 0 0) (all_told room text.now) }

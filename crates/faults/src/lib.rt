@@ -209,7 +209,7 @@ impl TextFault {
         self.cause.number()
     }
 
-    // The line of the fault, 0 for the whole text.
+    // The line of the fault, 0 for the whole text. It and `field` are a line each: a contract names the number that it answers.
     pub fn line(self) -> usize
         ensures { result ≡ line_of self }
     {

@@ -219,6 +219,7 @@ mod tests {
     use measures::time::Time;
     use measures::values::{ClimbValue, LongestValue, TimeValue};
 
+    // A stop of any kind that hangs on another.
     fn tied(parent: u8, link: Link) -> Stop {
         Stop {
             kind: 0,

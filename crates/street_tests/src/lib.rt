@@ -110,7 +110,7 @@ mod tests {
         choices(street, job, stop).map(|found| (found.set.bits(), found.size, found.least))
     }
 
-    // A stop that hangs on another.
+    // A stop that hangs on another. The tests of the search have one like it; a constructor in `jobs` would be public for tests alone.
     fn hung(kind: u8, parent: u8, link: Link) -> Stop {
         Stop {
             kind,

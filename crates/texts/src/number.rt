@@ -6,7 +6,8 @@ use faults::{FieldFault, FieldWrong, Spot};
 // The most that a kind may be, in both texts.
 pub const LAST_KIND: u8 = 255;
 
-// A type that a number in a field is read as.
+// A type that a number in a field is read as. Each type has an impl of its own, since the library's narrowing names its type; as
+// a default body it would ask for `TryFrom<u64>` and its law in every type. `u64` is there for a caller who wants any number.
 pub trait Unsigned: Copy {
     // The number that a value is.
     ghost value: { Self → ℕ };
