@@ -1,5 +1,5 @@
 -- One more place of a row is filled in, and one more row.
-use Rattle.std.proofs.Common.{◌≡◌, ℕ, ◌+◌, ◌<◌, ◌≤◌, length, Option, sym, refl, ◌∙◌, subst, ap₂, ⊎_elim, arith}
+use Rattle.std.proofs.Common.{◌≡◌, ℕ, ◌+◌, ◌<◌, ◌≤◌, length, Option, sym, refl, ◌∙◌, subst, ap₂, ⊎_elim, arith, below_more}
 use Rattle.std.proofs.lemmas.Bool.{cases_lt}
 use Rattle.measures.specs.Laws.{Laws}
 use Rattle.measures.specs.Meaning.{MeasureMeaning}
@@ -8,7 +8,7 @@ use Rattle.measures.specs.Scales.{optional}
 use Rattle.jobs.specs.Jobs.{stops_of}
 use Rattle.trees.specs.Minima.{IsLeast}
 use Rattle.trees.proofs.Lift.{lifted}
-use Rattle.trees.proofs.Bounds.{least_same, more}
+use Rattle.trees.proofs.Bounds.{least_same}
 use Rattle.tables.specs.Tables.{own_in, best_in, hang_in, Stays, BestWritten, HangWritten}
 use Rattle.minima.specs.Tables.{link_in, hanging_in, RowIn}
 use Rattle.minima.specs.Boards.{stop_cell, Shows, SameBoard, BestTo, HangTo}
@@ -44,7 +44,7 @@ module _ {M V : Type 0} where
             stays = stays_both old.cells.now mid.cells.now new.cells.now to.stays w.stays;
             hangs = λ i. w.hangs i ∙ to.hangs i;
             others = λ t q d h. else' t q (λ e _. d e) h ∙ to.others t q d h;
-            row = more (λ q. best_in new.cells.now old.n s q ≡ both meaning.joined (own_in old.cells.now old.n s q) (hanging_in meaning old.cells.now old.n (stops_of old.job.now) s q)) k
+            row = below_more (λ q. best_in new.cells.now old.n s q ≡ both meaning.joined (own_in old.cells.now old.n s q) (hanging_in meaning old.cells.now old.n (stops_of old.job.now) s q)) k
                 (λ q h. else' s q (λ _ e. omega arith) (omega arith) ∙ to.row q h)
                 (best_there new.cells.now old.n s k (stop_cell old.n s k) v refl w.there ∙ value
                 ∙ ap₂ (both meaning.joined) (own_stays old.cells.now mid.cells.now old.n to.stays s k)
@@ -64,7 +64,7 @@ module _ {M V : Type 0} where
             stays = stays_both old.cells.now mid.cells.now new.cells.now to.stays w.stays;
             bests = λ i. w.bests i ∙ to.bests i;
             others = λ t p d h. else' t p (λ e _. d e) h ∙ to.others t p d h;
-            row = more (λ p. IsLeast (optional meaning) old.n (λ q. both meaning.joined (link_in old.cells.now old.n (stops_of old.job.now) s p q) (best_in old.cells.now old.n s q)) (hang_in new.cells.now old.n s p)) k
+            row = below_more (λ p. IsLeast (optional meaning) old.n (λ q. both meaning.joined (link_in old.cells.now old.n (stops_of old.job.now) s p q) (best_in old.cells.now old.n s q)) (hang_in new.cells.now old.n s p)) k
                 (λ p h. least_same (optional meaning) (lifted meaning laws) old.n _ _ _ _ (λ _ _. refl) (else' s p (λ _ e. omega arith) (omega arith)) (to.row p h))
                 (least_same (optional meaning) (lifted meaning laws) old.n _ _ _ _
                 (λ q _. ap₂ (both meaning.joined) (sym (link_stays old.cells.now mid.cells.now old.n to.stays (stops_of old.job.now) s k q)) (sym (best_stays old.cells.now mid.cells.now old.n to.bests s q)))

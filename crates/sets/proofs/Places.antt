@@ -1,18 +1,14 @@
 -- Laws of places for stops, and of which has the earlier ones.
-use Rattle.std.proofs.Common.{◌≡◌, ℕ, zero, suc, ◌+◌, ◌<◌, ◌⊎◌, sym, ◌∙◌, subst, inl, inr, ⊎_elim, arith}
-use Rattle.std.proofs.lemmas.Bool.{cases_lt, cases_eq, cases_order}
+use Rattle.std.proofs.Common.{◌≡◌, ℕ, zero, suc, ◌<◌, ◌⊎◌, sym, ◌∙◌, subst, inl, inr, ⊎_elim, below_more, arith}
+use Rattle.std.proofs.lemmas.Bool.{cases_eq, cases_order}
 use Rattle.sets.specs.Placements.{Same, Earlier}
-
--- what holds of each number below k, and of k, holds below k + 1
-pub more : (P : ℕ → Type 0) (k : ℕ) → ((i : ℕ) → i < k → P i) → P k → (i : ℕ) → i < k + 1 → P i
-more P k h e i l = ⊎_elim (h i) (λ g. let d : k ≡ i = omega arith in subst P d e) (cases_lt i k)
 
 -- P and Q agree on the stops below k, or differ first at one of them
 pub differ : (k : ℕ) (P Q : ℕ → ℕ) → Same k P Q ⊎ ((i : ℕ) × (i < k) × Same i P Q × (P i ≡ Q i → ⊥))
 differ zero P Q = inl (λ s l. absurd (omega arith))
 differ (suc k) P Q = ⊎_elim
     (λ same. ⊎_elim
-    (λ e. inl (λ s l. more (λ i. P i ≡ Q i) k same e s (omega arith)))
+    (λ e. inl (λ s l. below_more (λ i. P i ≡ Q i) k same e s (omega arith)))
     (λ d. inr (k, omega arith, same, d))
     (cases_eq (P k) (Q k)))
     (λ p. let l = p.1 in inr (p.0, omega arith, p.2, p.3))

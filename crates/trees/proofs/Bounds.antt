@@ -1,5 +1,5 @@
 -- One stop more: the bound of a prefix is the least of the bounds of the prefixes one longer.
-use Rattle.std.proofs.Common.{◌≡◌, ℕ, zero, suc, ◌+◌, ◌<◌, ◌≤◌, true, cond, eqb, ltb, sym, refl, ap, ◌∙◌, subst, ap₂, inl, inr, ⊎_elim, arith}
+use Rattle.std.proofs.Common.{◌≡◌, ℕ, zero, suc, ◌+◌, ◌<◌, ◌≤◌, true, cond, eqb, ltb, sym, refl, ap, ◌∙◌, subst, ap₂, inl, inr, ⊎_elim, arith, below_more}
 use Rattle.std.proofs.lemmas.Bool.{cases_Bool, cases_lt, cases_eq, cond-true, cond-false, lt-ltb, eq-eqb, ne_eqb}
 use Rattle.std.proofs.lemmas.Bool.Decides.{nat_tests}
 use Rattle.measures.specs.Laws.{Laws}
@@ -7,7 +7,6 @@ use Rattle.measures.proofs.Orders.{same_before, lower_before, mono_right}
 use Rattle.measures.specs.Scales.{Scale, Sound, total}
 use Rattle.trees.specs.Tasks.{Task, put, score, Rooted, cost}
 use Rattle.trees.specs.Minima.{IsLeast, child, hanging, term, bound, besides}
-pub use Rattle.sets.proofs.Places.{more}
 
 module _ {W : Type 0} (τ : Task W) (rooted : Rooted τ) where
   pub root_par : (s : ℕ) → s ≡ 0 → τ.par s ≡ 0
@@ -144,11 +143,11 @@ module _ {W : Type 0} (σ : Scale W) (sound : Sound σ) where
 pub least_more : {W : Type 0} (σ : Scale W) (sound : Sound σ) (i : ℕ) (f : ℕ → W) (w : W) → IsLeast σ i f w → IsLeast σ (i + 1) f (cond (σ.leq w (f i)) w (f i))
 least_more {W} σ sound i f w least = ⊎_elim
     (λ t. subst (λ (v : W). IsLeast σ (i + 1) f v) (sym (cond-true _ w (f i) t)) (record {
-      below = more (λ q. σ.leq w (f q) ≡ true) i least.below t;
+      below = below_more (λ q. σ.leq w (f q) ≡ true) i least.below t;
       met = ⊎_elim inl (λ p. let l = p.1 in inr (p.0, omega arith, p.2)) least.met;
     }))
     (λ t. subst (λ (v : W). IsLeast σ (i + 1) f v) (sym (cond-false _ w (f i) t)) (record {
-      below = more (λ q. σ.leq (f i) (f q) ≡ true) i (λ q l. sound.laws.trans (f i) w (f q) (lower_before sound.laws (f i) w t) (least.below q l)) (same_before sound.laws (f i));
+      below = below_more (λ q. σ.leq (f i) (f q) ≡ true) i (λ q l. sound.laws.trans (f i) w (f q) (lower_before sound.laws (f i) w t) (least.below q l)) (same_before sound.laws (f i));
       met = inr (i, omega arith, refl);
     }))
     (cases_Bool (σ.leq w (f i)))

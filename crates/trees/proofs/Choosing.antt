@@ -1,5 +1,5 @@
 -- The least of the waiting sets is chosen.
-use Rattle.std.proofs.Common.{◌≡◌, ℕ, zero, suc, ◌+◌, ◌<◌, ◌≤◌, true, false, ◌⊎◌, sym, refl, ap, ◌∙◌, subst, ap₂, inl, inr, ⊎_elim, add-one, arith}
+use Rattle.std.proofs.Common.{◌≡◌, ℕ, zero, suc, ◌+◌, ◌<◌, ◌≤◌, true, false, ◌⊎◌, sym, refl, ap, ◌∙◌, subst, ap₂, inl, inr, ⊎_elim, add-one, arith, below_more}
 use Rattle.std.proofs.lemmas.Bool.{cases_lt, cases_order, cases_Bool, false≢true, cond-true, cond-false, lt-ltb, le-ltb, eq-eqb, ne_eqb}
 use Rattle.std.proofs.lemmas.Bool.Decides.{nat_tests}
 use Rattle.measures.specs.Scales.{Scale, Sound}
@@ -9,13 +9,12 @@ use Rattle.trees.specs.Subspaces.{Subspace, First, not_later, sooner}
 use Rattle.trees.specs.Rounds.{Chosen}
 use Rattle.trees.proofs.Firsts.{true_score}
 use Rattle.sets.specs.Placements.{Same, Earlier}
-use Rattle.sets.proofs.Places.{more}
 
 pub not_later_lem : (d i : ℕ) (P Q : ℕ → ℕ) → Same i P Q → not_later d i P Q ≡ true → Same (i + d) P Q ⊎ Earlier (i + d) P Q
 unfolding not_later
 not_later_lem zero i P Q same h = inl (λ s l. same s (omega arith))
 not_later_lem (suc d) i P Q same h = ⊎_elim
-    (λ e. let next = not_later_lem d (i + 1) P Q (more (λ s. P s ≡ Q s) i same e)
+    (λ e. let next = not_later_lem d (i + 1) P Q (below_more (λ s. P s ≡ Q s) i same e)
     (sym (cond-false _ true _ (le-ltb (P i) (Q i) (omega arith)) ∙ cond-true _ (not_later d (i + 1) P Q) false (eq-eqb (P i) (Q i) e)) ∙ h) in
     let a : i + 1 + d ≡ i + suc d = omega arith in subst (λ (k : ℕ). Same k P Q ⊎ Earlier k P Q) a next)
     (λ o. ⊎_elim

@@ -1,5 +1,5 @@
 -- The first plan of a set comes before every other plan of it.
-use Rattle.std.proofs.Common.{◌≡◌, ℕ, zero, suc, ◌+◌, ◌-◌, ◌<◌, ◌≤◌, Bool, true, false, eqb, ◌⊎◌, sym, refl, ap, ◌∙◌, subst, ap₂, inl, inr, ⊎_elim, arith}
+use Rattle.std.proofs.Common.{◌≡◌, ℕ, zero, suc, ◌+◌, ◌-◌, ◌<◌, ◌≤◌, Bool, true, false, eqb, ◌⊎◌, sym, refl, ap, ◌∙◌, subst, ap₂, inl, inr, ⊎_elim, arith, below_more}
 use Rattle.std.proofs.lemmas.Bool.{both_ways, cases_lt, cases_eq, cases_Bool, cases_order, cond-true, cond-false, eq-eqb, ne_eqb}
 use Rattle.measures.specs.Scales.{Scale, Sound}
 use Rattle.measures.proofs.Orders.{same_before}
@@ -8,7 +8,7 @@ use Rattle.trees.specs.Minima.{IsLeast, MinimalFrom, Minimal, bound}
 use Rattle.trees.specs.Subspaces.{Subspace, In, Picked, Found, First, Split}
 use Rattle.trees.proofs.Bounds.{one_step, local, at_end}
 use Rattle.sets.specs.Placements.{Same}
-use Rattle.sets.proofs.Places.{differ, more}
+use Rattle.sets.proofs.Places.{differ}
 
 put_here : (P : ℕ → ℕ) (i q : ℕ) → put P i q i ≡ q
 put_here P i q = cond-true (eqb i i) q (P i) (eq-eqb i i refl)
@@ -18,7 +18,7 @@ put_else P i q s d = cond-false (eqb s i) q (P s) (ne_eqb s i d)
 
 -- where Q agrees with P below i, it is P with Q's place at i
 pub put_agree : (P Q : ℕ → ℕ) (i q : ℕ) → Same i P Q → q ≡ Q i → Same (i + 1) (put P i q) Q
-put_agree P Q i q same e = more (λ s. put P i q s ≡ Q s) i (λ s l. put_else P i q s (λ d. omega arith) ∙ same s l) (put_here P i q ∙ e)
+put_agree P Q i q same e = below_more (λ s. put P i q s ≡ Q s) i (λ s l. put_else P i q s (λ d. omega arith) ∙ same s l) (put_here P i q ∙ e)
 
 -- the bound of a prefix is the least score; only the table's rows from the prefix on count
 module _ {W : Type 0} (σ : Scale W) (sound : Sound σ) (τ : Task W) (H : ℕ → ℕ → W) (rooted : Rooted τ) (k : ℕ) (minimal : MinimalFrom σ τ k H) where
@@ -45,7 +45,7 @@ module _ {W : Type 0} (σ : Scale W) (sound : Sound σ) (τ : Task W) (H : ℕ �
       (λ none. inl (sym p.2 ∙ none))
       (λ c. inr (c.0, c.1, (λ s l. sym (put_else P i p.0 s (λ d. omega arith)) ∙ c.2 s (omega arith)), c.3 ∙ p.2))
       (complete d (i + 1) (put P i p.0) (omega arith) (omega arith) (omega arith)
-      (more (λ s. put P i p.0 s < τ.n) i (λ s l. subst (λ (q : ℕ). q < τ.n) (sym (put_else P i p.0 s (λ d. omega arith))) (placed s l)) (subst (λ (q : ℕ). q < τ.n) (sym (put_here P i p.0)) p.1))))
+      (below_more (λ s. put P i p.0 s < τ.n) i (λ s l. subst (λ (q : ℕ). q < τ.n) (sym (put_else P i p.0 s (λ d. omega arith))) (placed s l)) (subst (λ (q : ℕ). q < τ.n) (sym (put_here P i p.0)) p.1))))
       (one_step σ sound τ H rooted i P z (omega arith) (λ p' pl. minimal i p' f (omega arith) pl) (placed (τ.par i) (rooted.1 i z (omega arith)))).met
 
   pub bound_is_least : (i : ℕ) (P : ℕ → ℕ) → k ≤ i → 0 < i → i ≤ τ.m → ((s : ℕ) → s < i → P s < τ.n) → LeastFrom σ τ i P (bound σ τ H i P)
@@ -64,7 +64,7 @@ module _ {W : Type 0} (σ : Scale W) (sound : Sound σ) (τ : Task W) (H : ℕ �
   -- one stop more with the first place of the least bound
   module _ (P P' : ℕ → ℕ) (j : ℕ) (out : ℕ → Bool) (v : W) (some : v ≡ σ.none → ⊥) where
     placed_more : (i q : ℕ) → ((s : ℕ) → s < i → P s < τ.n) → q < τ.n → Same i P P' → P' i ≡ q → (s : ℕ) → s < i + 1 → P' s < τ.n
-    placed_more i q placed lt same e = more (λ s. P' s < τ.n) i (λ s l. subst (λ (x : ℕ). x < τ.n) (same s l) (placed s l)) (subst (λ (x : ℕ). x < τ.n) (sym e) lt)
+    placed_more i q placed lt same e = below_more (λ s. P' s < τ.n) i (λ s l. subst (λ (x : ℕ). x < τ.n) (same s l) (placed s l)) (subst (λ (x : ℕ). x < τ.n) (sym e) lt)
 
     bound_more : (i q : ℕ) → Same i P P' → P' i ≡ q → bound σ τ H (i + 1) P' ≡ bound σ τ H (i + 1) (put P i q)
     bound_more i q same e = local σ sound τ H rooted (i + 1) P' (put P i q) (omega arith) (λ s k. sym (put_agree P P' i q same (sym e) s k))

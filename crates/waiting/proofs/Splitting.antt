@@ -1,5 +1,5 @@
 -- The parts of a subspace, written one after the other into cells.
-use Rattle.std.proofs.Common.{◌≡◌, ℕ, ◌+◌, ◌*◌, ◌<◌, ◌≤◌, ◌||◌, eqb, List, length, get_or, sym, ◌∙◌, subst, arith}
+use Rattle.std.proofs.Common.{◌≡◌, ℕ, ◌+◌, ◌*◌, ◌<◌, ◌≤◌, ◌||◌, eqb, List, length, get_or, sym, ◌∙◌, subst, arith, below_more}
 use Rattle.sets.specs.Sets.{has_bit}
 use Rattle.sets.specs.Placements.{Same}
 use Rattle.measures.specs.Meaning.{MeasureMeaning}
@@ -13,7 +13,6 @@ use Rattle.tables.specs.Tables.{blank, entry_in, Kept, EntryWritten}
 use Rattle.minima.specs.Boards.{Shows, SameBoard}
 use Rattle.minima.specs.declared.board.Board.{Board}
 use Rattle.minima.specs.declared.board.BoardMut.{BoardMut}
-use Rattle.sets.proofs.Places.{more}
 use Rattle.waiting.specs.Queues.{FirstOver, Part, Safe}
 use Rattle.waiting.proofs.Keeping.{tables_kept, same_entry}
 
@@ -44,10 +43,10 @@ module _ {M V : Type 0} (meaning : MeasureMeaning V) (old cells new : List (Cell
   split_more so part put = record {
     before = λ i l. put.others i (λ d. omega arith) ∙ so.before i l;
     behind = λ i l. put.others i (λ d. omega arith) ∙ so.behind i (omega arith);
-    parts = more (λ v. Part from (depth + 1 + v) (entry_in new (at + v)) × Safe n (length stops) (entry_in new (at + v))) count
+    parts = below_more (λ v. Part from (depth + 1 + v) (entry_in new (at + v)) × Safe n (length stops) (entry_in new (at + v))) count
         (λ v l. subst (λ (x : Entry V). Part from (depth + 1 + v) x × Safe n (length stops) x) (sym (same v l)) (so.parts v l))
         (subst (λ (x : Entry V). Part from (depth + 1 + count) x × Safe n (length stops) x) (sym put.there) (part.part, part.safe));
-    firsts = more (λ v. FirstOver meaning old n stops (entry_in new (at + v))) count
+    firsts = below_more (λ v. FirstOver meaning old n stops (entry_in new (at + v))) count
         (λ v l. subst (FirstOver meaning old n stops) (sym (same v l)) (so.firsts v l))
         (subst (FirstOver meaning old n stops) (sym put.there) (λ τ H tables. part.first τ H (tables_kept old cells n at stops behind so.before meaning τ H tables)));
   } where
