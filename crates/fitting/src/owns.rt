@@ -24,6 +24,7 @@ fn own_value<M: Measure>(board: &Board<'_, M, M::Value>, stop: Stop, q: usize) -
 }
 
 // Writes the own values of stop s, place by place.
+#[tactic(auto, using(minima::proofs::Filling::same_none, crate::proofs::Owning::board_none))]
 fn fill_row<M: Measure>(board: &mut BoardMut<'_, M, M::Value>, s: usize, stop: Stop)
     requires { let stops = stops_of board.old.job.now in (s < length stops) × (slice_get stops s ≡ Some stop) }
     ensures { let n = board.old.n in OwnedBoard M.Measure.meaning (s * n) n board.old board.new }
@@ -35,6 +36,7 @@ fn fill_row<M: Measure>(board: &mut BoardMut<'_, M, M::Value>, s: usize, stop: S
 }
 
 // Writes the own values of all stops, stop by stop.
+#[tactic(auto, using(crate::proofs::Owning::board_none))]
 fn fill_rows<M: Measure>(board: &mut BoardMut<'_, M, M::Value>)
     ensures { OwnedBoard M.Measure.meaning 0 (length (stops_of board.old.job.now) * board.old.n) board.old board.new }
 {

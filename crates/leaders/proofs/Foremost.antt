@@ -1,5 +1,6 @@
 -- Where every row in use is led by its head, the least of the heads has the first plan left.
 use Rattle.std.proofs.Common.{◌≡◌, ℕ, ◌+◌, ◌-◌, ◌*◌, ◌/◌, ◌%◌, ◌<◌, ◌≤◌, true, false, ◌⊎◌, List, IfSome, Some, None, Option, sym, refl, ap, ◌∙◌, subst, inl, inr, ⊎_elim, arith}
+use Rattle.std.proofs.Math.Nat.{le-mul_of_pos_right}
 use Rattle.std.proofs.lemmas.Nat.{mul-le, div_below, mod_below, div-add-mod'}
 use Rattle.std.proofs.lemmas.Bool.{cases_lt, cases_Bool, cond-true, cond-false}
 use Rattle.measures.specs.Laws.{Laws}
@@ -77,11 +78,10 @@ module _ {M V : Type 0} (meaning : MeasureMeaning V) (laws : Laws meaning.nought
       (scored_or_not (entry_in cells (base + v)).score)) (cases_lt v k)
 
 -- the heads are among the entries
-pub heads_le : (k m : ℕ) → 1 ≤ m → k ≤ k * m
-heads_le k m s = let a = mul-le k 1 k m (omega arith) s in omega arith
+pub ruleset heads_le = (le-mul_of_pos_right)
 
 pub head_in : (k m w : ℕ) → 1 ≤ m → w < k → w < k * m
-head_in k m w s l = let a = heads_le k m s in omega arith
+head_in k m w s l = let a = le-mul_of_pos_right k s in omega arith
 
 -- a head with a plan is in use, and can be split
 pub in_use : {M V : Type 0} (cells : List (Cell M V)) (base n m k rows w : ℕ) → 1 ≤ m → Rows cells base n m k rows → w < k → ((entry_in cells (base + w)).score ≡ None → ⊥) →

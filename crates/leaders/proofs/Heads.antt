@@ -1,5 +1,5 @@
 -- Two entries change places, and the earliest of a row becomes its head.
-use Rattle.std.proofs.Common.{◌≡◌, ℕ, ◌+◌, ◌-◌, ◌<◌, ◌≤◌, Bool, true, false, not, ◌⊎◌, List, get_or, Some, None, Option, MatchOption, sym, refl, ap, ◌∙◌, subst, ap₂, inl, inr, ⊎_elim, arith}
+use Rattle.std.proofs.Common.{◌≡◌, ℕ, ◌+◌, ◌-◌, ◌<◌, ◌≤◌, true, false, ◌⊎◌, List, Some, None, Option, MatchOption, sym, refl, ap, ◌∙◌, subst, ap₂, inl, inr, ⊎_elim, arith}
 use Rattle.std.proofs.lemmas.Bool.{both_ways, cases_eq}
 use Rattle.measures.specs.Laws.{Laws}
 use Rattle.measures.specs.Meaning.{MeasureMeaning}
@@ -9,7 +9,7 @@ use Rattle.trees.proofs.Choosing.{sooner_total, sooner_trans}
 use Rattle.cells.specs.declared.cell.Cell.{Cell}
 use Rattle.cells.specs.declared.cell.Entry.{Entry}
 use Rattle.cells.specs.Cells.{space_of, entry_before}
-use Rattle.tables.specs.Tables.{blank, entry_in}
+use Rattle.tables.specs.Tables.{entry_in}
 use Rattle.waiting.specs.Queues.{row_start}
 use Rattle.waiting.proofs.Keeping.{same_entry}
 use Rattle.leaders.specs.Leaders.{Earliest, Exchanged, Led, Promoted}
@@ -23,23 +23,7 @@ module _ {V : Type 0} (meaning : MeasureMeaning V) (laws : Laws meaning.nought m
   pub chain : (a b c : Entry V) → entry_before meaning.before a b ≡ true → entry_before meaning.before b c ≡ true → entry_before meaning.before a c ≡ true
   chain a b c = sooner_trans (optional meaning) (lifted meaning laws) 12 (space_of a) (space_of b) (space_of c)
 
-pub not_false : (b : Bool) → not b ≡ false → b ≡ true
-not_false true h = refl
-not_false false h = sym h
-
-pub not_true : (b : Bool) → not b ≡ true → b ≡ false
-not_true true h = sym h
-not_true false h = refl
-
 module _ {M V : Type 0} where
-  pub exchange_is : (old mid new : List (Cell M V)) (a b : ℕ) → entry_in mid b ≡ entry_in old a → ((i : ℕ) → (i ≡ b → ⊥) → get_or mid i blank ≡ get_or old i blank) →
-      entry_in new a ≡ entry_in old b → ((i : ℕ) → (i ≡ a → ⊥) → get_or new i blank ≡ get_or mid i blank) → Exchanged old new a b
-  exchange_is old mid new a b there others there' others' = record {
-    first = there';
-    second = ⊎_elim (λ e. ap (λ i. entry_in new i) e ∙ there' ∙ ap (λ i. entry_in old i) e) (λ d. same_entry mid new b (others' b d) ∙ there) (cases_eq b a);
-    others = λ i d d'. others' i d ∙ others i d';
-  }
-
   pub no_exchange : (cells : List (Cell M V)) (a : ℕ) → Exchanged cells cells a a
   no_exchange cells a = record { first = refl; second = refl; others = λ i d d'. refl }
 

@@ -12,6 +12,7 @@ use waiting::picking::{first_in, least_in};
 use waiting::queue::Entries;
 
 // Two waiting subspaces change places; nothing else changes. No `swap`, which would move the other parts of the cells too.
+#[tactic(auto, unfolding(tables::specs::Tables::entry_in))]
 fn exchange<M, V: Copy>(cells: &mut [Cell<M, V>], a: usize, b: usize)
     requires { (a < length cells.old) × (b < length cells.old) }
     ensures { Exchanged cells.old cells.new a b }
@@ -31,11 +32,13 @@ fn comes_after<M: Measure>(cells: &[Cell<M, M::Value>], a: usize, b: usize) -> b
 }
 
 // The earlier of two waiting subspaces goes into the first cell, and the other into the second.
+#[tactic(auto, using(crate::proofs::Heads::other_way))]
 fn lead<M: Measure>(cells: &mut [Cell<M, M::Value>], head: usize, at: usize)
     requires { (head < length cells.old) × (at < length cells.old) }
     ensures led { entry_before M.Measure.meaning.before (entry_in cells.new head) (entry_in cells.new at) ≡ true }
     ensures moved { (cells.new ≡ cells.old) ⊎ Exchanged cells.old cells.new head at }
 {
+    laws::<M>();
     if comes_after::<M>(cells, head, at) {
         exchange(cells, head, at);
     }
@@ -62,6 +65,7 @@ impl<'a, M: Measure> RowsMut<'a, M, M::Value> {
     }
 
     // The earliest entry of a row behind its head, counted from the first behind it; none where the head is all of the row.
+    #[tactic(auto, using(crate::proofs::Heads::earliest_is))]
     fn earliest_behind(&self, row: usize) -> Option<usize>
         requires { row < self.now.entries.k }
         ensures { let e = self.now.entries in MatchOption result (e.m ≤ 1) (λ u. Earliest M.Measure.meaning self.now.cells.now e.base e.m e.k row u) }

@@ -8,8 +8,8 @@ ghost use Rattle.rides.specs.Rounds.{Written};
 
 use crate::pairs::PairTable;
 use cells::order::lesser;
-use measures::Measure;
 use measures::optional::join_options;
+use measures::{Measure, laws};
 
 impl<'a, M: Measure> PairTable<'a, M, M::Value> {
     // One pair: the way by k, which begins with `first`, is taken where it is the lesser.
@@ -24,12 +24,13 @@ impl<'a, M: Measure> PairTable<'a, M, M::Value> {
     }
 
     // One row of round k: the pairs from i. Without a way from i to k there is nothing to do.
-    #[tactic(auto, using(crate::proofs::Rounding::row_end))]
+    #[tactic(auto, using(crate::proofs::Rounding::row_end, crate::proofs::Rounding::row_skip))]
     fn relax_row(&mut self, k: usize, i: usize)
         requires { (i < self.old.n) × (k < self.old.n) }
         ensures rides { (s : StreetMeaning) → RoundAt M.Measure.meaning s k i 0 self.old → RoundAt M.Measure.meaning s k (i + 1) 0 self.new }
         ensures kept { RidesChanged self.old self.new }
     {
+        laws::<M>();
         let Some(first) = self.ride(i, k) else {
             return;
         };

@@ -44,6 +44,7 @@ impl<'a, M, V: Copy> PairTable<'a, M, V> {
 
     // Writes the leg's value and the ride from a to b. Two writes: `Cell { leg, ride, ..cell }` gets no proof, since a cell
     // at a type parameter would be copied out from behind a reference.
+    #[tactic(auto, using(crate::proofs::CellWrites::same_kinds, crate::proofs::CellWrites::left_by_write))]
     pub(crate) fn set_pair(&mut self, a: usize, b: usize, leg: Option<V>, ride: Option<V>)
         requires { (a < self.old.n) × (b < self.old.n) }
         ensures legs { Written leg_in self.old.n a b leg self.old.cells.now self.new.cells.now }
@@ -68,6 +69,7 @@ impl<'a, M, V: Copy> PairTable<'a, M, V> {
     }
 
     // Writes the kind of a place.
+    #[tactic(auto, using(crate::proofs::CellWrites::left_by_write))]
     pub(crate) fn set_kind(&mut self, p: usize, kind: u8)
         requires { p < self.old.n }
         ensures kind { KindWritten self.old.n p kind self.old.cells.now self.new.cells.now }

@@ -126,12 +126,6 @@ splittable cells n k rows base stops room is row (Some w) h = let head = h.0 in 
 moved : (J : Type 0) (P : ℕ → J → ℕ → ℕ → Type 0) (n n' : ℕ) (j j' : J) (b b' k k' : ℕ) → n ≡ n' → j ≡ j' → b ≡ b' → k ≡ k' → P n j b k → P n' j' b' k'
 moved J P n n' j j' b b' k k' p q r s h = subst (λ x. P x j' b' k') p (subst (λ x. P n x b' k') q (subst (λ x. P n j x k') r (subst (λ x. P n j b x) s h)))
 
--- there are cells for what waits behind the tables
-pub room_there : {M V : Type 0} (cells : List (Cell M V)) (n n' : ℕ) (j j' : Job) (b k k' : ℕ) → n' ≡ n → j' ≡ j → b ≡ behind_tables n (length (stops_of j)) → k' ≡ k → 1 ≤ k → needed n (length (stops_of j)) k ≤ length cells →
-    (1 ≤ k') × (b + k' * length (stops_of j') ≤ length cells)
-room_there cells n n' j j' b k k' p q r s one room =
-    moved Job (λ x i c y. (1 ≤ y) × (c + y * length (stops_of i) ≤ length cells)) n n' j j' (behind_tables n (length (stops_of j))) b k k' (sym p) (sym q) (sym r) (sym s) (one, room)
-
 -- all plans wait in the entries from cell `base` on, over the tables that were there
 pub record AllWait {M V : Type 0} (meaning : MeasureMeaning V) (n : ℕ) (j : Job) (base k : ℕ) (old new : List (Cell M V)) : Type 0 where
   pub kept : Kept base old new
@@ -166,11 +160,6 @@ looked meaning laws j n k cells room b m k' p q s r found-head =
           found meaning laws street j n k given cells (behind_tables n (length (stops_of j))) s (k * length (stops_of j)) r
           (h.plan.told τ s.tabled.minima n (length given) (stops_of j) given refl s.tabled.tables s.used s.led s.parted);
     }
-
--- the head of the search stands behind the tables, and can be given there
-pub givable_there : {M V : Type 0} (cells : List (Cell M V)) (n n' : ℕ) (j j' : Job) (b k k' rows w : ℕ) → n' ≡ n → j' ≡ j → b ≡ behind_tables n (length (stops_of j)) → k' ≡ k →
-    Givable cells n (stops_of j) (behind_tables n (length (stops_of j))) k rows w → Givable cells n' (stops_of j') b k' rows w
-givable_there cells n n' j j' b k k' rows w p q r s = moved Job (λ x i c y. Givable cells x (stops_of i) c y rows w) n n' j j' (behind_tables n (length (stops_of j))) b k k' (sym p) (sym q) (sym r) (sym s)
 
 -- once it is given, the other plans of the street wait on
 pub gave : {M V : Type 0} (meaning : MeasureMeaning V) (laws : Laws meaning.nought meaning.joined meaning.before) (n n' : ℕ) (j j' : Job) (b k k' rows w : ℕ) (old new : List (Cell M V)) →

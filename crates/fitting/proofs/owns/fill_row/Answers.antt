@@ -1,11 +1,9 @@
 use Rattle.std.proofs.Common.{refl, arith}
-use Rattle.minima.proofs.Filling.{same_none, same_both}
-use Rattle.fitting.proofs.Owning.{board_none, board_place}
+use Rattle.minima.proofs.Filling.{same_both}
+use Rattle.fitting.proofs.Owning.{board_place}
 use Rattle.fitting.proofs.owns.fill_row.Goals as goal
 
-pub loop-q-init : goal.loop-q-init
-loop-q-init g c = (same_none _, λ k e. board_none _ _ _ _ e)
-
+-- same_both and board_place named at the function were tried: the check goes past its limit
 pub loop-q-preserved : goal.loop-q-preserved
 loop-q-preserved g c = (
   same_both _ _ _ c.loop-q.invariant.0 c.set_own.ensures.same,

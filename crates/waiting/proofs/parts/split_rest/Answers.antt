@@ -27,11 +27,5 @@ loop-u-preserved g c = let step = c.in-Some.ensures.steps in let m = g.M.Measure
           (board_more m o c.loop-u.board c.set_entry.new.self b old.places old.depth c.args.at (enumerate_count c.loop-u.u-iterator) c.part_at-part.result c.requires.1 c.board.ensures c.loop-u.invariant.5 c.loop-u.invariant.6 part put),
     )
 
-pub returns : goal.returns
-returns g c = let end = c.in-None.ensures.steps in let k = c.loop-u.invariant.6 in record {
-  same = c.loop-u.invariant.5;
-  before = k.before;
-  behind = λ i l. k.behind i (omega (arith, end));
-  parts = λ u l. k.parts u (omega (arith, end));
-  firsts = λ u l. k.firsts u (omega (arith, end));
-}
+pub returns-clause-firsts : goal.returns-clause-firsts
+returns-clause-firsts g c = let end = c.in-None.ensures.steps in λ u l. c.loop-u.invariant.6.firsts u (omega (arith, end))

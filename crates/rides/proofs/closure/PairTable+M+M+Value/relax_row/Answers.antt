@@ -2,13 +2,10 @@ use Rattle.std.proofs.Common.{rules, ◌≡◌, ℕ, ◌+◌, ◌<◌, Some, Opt
 use Rattle.plans.specs.Between.{Reaches}
 use Rattle.tables.specs.Tables.{ride_in}
 use Rattle.rides.specs.Rounds.{Mid}
-use Rattle.rides.proofs.Rounding.{mid_step, row_skip}
+use Rattle.rides.proofs.Rounding.{mid_step}
 use Rattle.rides.proofs.closure.PairTable+M+M+Value.relax_row.Goals as goal
 
--- row_skip and mid_step take the laws of the measure, which `grind` does not take from the trait, and a walk for every value
-pub returns-in_default-clause-rides : goal.returns-in_default-clause-rides
-returns-in_default-clause-rides g c = λ s mid. row_skip g.M.Measure.meaning g.met.M.Measure.lawful.laws s c.args.self.now.n c.args.k c.requires.1 c.args.i _ c.requires.0 (sym c.ride.ensures ∙ c.in_default.is) mid
-
+-- mid_step takes a walk for every value
 pub loop-j-preserved : goal.loop-j-preserved
 loop-j-preserved g c =
     let m = g.M.Measure.meaning in

@@ -1,18 +1,12 @@
-use Rattle.std.proofs.Common.{◌<◌, length, refl, ◌∙◌, arith}
-use Rattle.std.proofs.lemmas.List.{drop-set-lt}
-use Rattle.tables.specs.Tables.{blank}
-use Rattle.rides.proofs.CellWrites.{leg_first, ride_second, no_kind}
+use Rattle.std.proofs.Common.{arith}
+use Rattle.std.proofs.Math.Seq.{map-set_same}
+use Rattle.std.proofs.lemmas.List.{map-set}
+use Rattle.rides.proofs.CellWrites.{leg_written, ride_written}
 use Rattle.rides.proofs.pairs.PairTable.set_pair.Goals as goal
 
-pub returns : goal.returns
-returns g c =
-    let cells = c.args.self.now.cells.now in
-    let i = c.pair_place-i.result in
-    let at = c.pair_place-i.ensures.0 in
-    let h : i < length cells = omega arith in
-    record {
-      legs = leg_first cells c.args.self.now.n c.args.a c.args.b i at h c.requires.1 _ _ blank _ refl;
-      rides = ride_second cells c.args.self.now.n c.args.a c.args.b i at h c.requires.1 _ _ _ blank refl;
-      kinds = no_kind cells c.args.self.now.n c.args.a c.args.b i at h c.requires.1 _ _ _ _ refl refl;
-      kept = ((refl, refl), drop-set-lt _ _ i _ c.pair_place-i.ensures.1 ∙ drop-set-lt _ cells i _ c.pair_place-i.ensures.1);
-    }
+-- leg_written and ride_written named at the function were tried: `grind` goes past its limit
+pub returns-clause-legs : goal.returns-clause-legs
+returns-clause-legs g c = leg_written c.args.self.now.cells.now _ c.args.self.now.n c.args.a c.args.b c.args.leg c.requires.1 (omega arith) (grind (arith, map-set_same, map-set))
+
+pub returns-clause-rides : goal.returns-clause-rides
+returns-clause-rides g c = ride_written c.args.self.now.cells.now _ c.args.self.now.n c.args.a c.args.b c.args.ride c.requires.1 (omega arith) (grind (arith, map-set_same, map-set))

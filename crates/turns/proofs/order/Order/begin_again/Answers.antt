@@ -1,9 +1,5 @@
-use Rattle.turns.proofs.Stands.{room_there, waits}
+use Rattle.turns.proofs.Stands.{waits}
 use Rattle.turns.proofs.order.Order.begin_again.Goals as goal
-
-pub let_all_wait-requires : goal.let_all_wait-requires
-let_all_wait-requires g c = let told = c.waiting.ensures in
-    room_there c.args.cells.now c.args.self.now.n c.waiting.result.n c.args.self.now.job.now c.waiting.result.job.now c.waiting.result.base c.args.self.now.k c.waiting.result.k told.0 told.1 told.2 told.3 c.args.self.now.some c.requires
 
 pub returns : goal.returns
 returns g c = let told = c.waiting.ensures in let all = c.let_all_wait.ensures in

@@ -1,9 +1,5 @@
-use Rattle.turns.proofs.Stands.{givable_there, gave}
+use Rattle.turns.proofs.Stands.{gave}
 use Rattle.turns.proofs.order.Order.give.Goals as goal
-
-pub advance-requires : goal.advance-requires
-advance-requires g c = let told = c.waiting.ensures in
-    givable_there c.args.cells.now c.args.self.now.n c.waiting.result.n c.args.self.now.job.now c.waiting.result.job.now c.waiting.result.base c.args.self.now.k c.waiting.result.k c.args.rows c.args.w told.0 told.1 told.2 told.3 c.requires
 
 pub returns : goal.returns
 returns g c = let told = c.waiting.ensures in
