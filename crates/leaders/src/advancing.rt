@@ -6,7 +6,8 @@ use cells::cell::Cell;
 use measures::Measure;
 use waiting::queue::Waiting;
 
-// The plan of head w is given: the other plans that waited with it wait on, and every row in use is led by its head.
+// The plan of head w is given: the other plans that waited with it wait on, and every row in use is led by its head. `rows` says how
+// many plans were given, and w which one is given now: two values, and no pair.
 pub fn advance<M: Measure>(
     cells: &mut [Cell<M, M::Value>],
     waiting: &Waiting<'_>,

@@ -57,7 +57,7 @@ impl<'a, M, V: Copy> PairTable<'a, M, V> {
         self.cells[i].ride = ride;
     }
 
-    // Writes the ride from a to b.
+    // Writes the ride from a to b. It and `set_kind` stand apart, since a contract names what is written.
     #[tactic(auto, using(crate::proofs::CellWrites::left_by_write))]
     pub(crate) fn set_ride(&mut self, a: usize, b: usize, ride: Option<V>)
         requires { (a < self.old.n) × (b < self.old.n) }

@@ -33,8 +33,8 @@ pub fn part_at<M: Measure>(
 {
     let without = excluded.with(places.at(t));
     let prefix = Prefix {
-        board: &*board,
-        places: &*places,
+        board,
+        places,
         i: t,
     };
     first_plan::<M>(&prefix, without)

@@ -10,7 +10,7 @@ use measures::{Measure, laws};
 use tables::access::cell_at;
 
 // The least of the waiting subspaces in the cells from one to another, counted from the first of them; none where
-// there is no cell.
+// there is no cell. It and `first_in` take the cells' numbers and no slice, since the clauses above speak of those numbers.
 pub fn least_in<'a, M: Measure>(
     cells: &'a [Cell<M, M::Value>],
     from: usize,
