@@ -126,8 +126,9 @@ mod tests {
         draft.push(Stop { kind: 2, tie: None })?;
         draft.push(hung(0, 0, Link::Ride))?;
         draft.push(hung(3, 1, Link::Direct))?;
-        let job = Job::try_from(draft)?;
-        assert_eq!(rt; told(&street, &Job::new(), 0), Ok((15, 4, 0)));
+        let mut job = Job::new();
+        assert_eq!(rt; told(&street, &job, 0), Ok((15, 4, 0)));
+        assert_eq!(rt; job.put(draft)?, 3);
         assert_eq!(rt; told(&street, &job, 0), Ok((6, 2, 1)));
         assert_eq!(rt; told(&street, &job, 1), Ok((15, 4, 0)));
         assert_eq!(rt; told(&street, &job, 2), Ok((0, 0, 64)));
