@@ -1,10 +1,11 @@
 -- How a text's cuts step along it.
-use Rattle.std.proofs.Common.{◌≡◌, ℕ, suc, ◌+◌, ◌-◌, ◌<◌, ◌≤◌, Bool, true, false, not, cond, eqb, ltb, List, [], ◌∷◌, map, length, take, drop, Some, None, Option, MatchOption, sym, refl, ap, ◌∙◌, add-one, arith, length-drop}
-use Rattle.std.specs.List.{position, position_or_len, onto_first}
+use Rattle.std.proofs.Common.{◌≡◌, ℕ, suc, ◌+◌, ◌-◌, ◌<◌, ◌≤◌, Bool, true, false, not, cond, eqb, ltb, List, [], ◌∷◌, map, length, take, drop, get_or, Some, None, Option, MatchOption, sym, refl, ap, ◌∙◌, add-one, arith, length-drop}
+use Rattle.std.specs.List.{position, position_or_len, onto_first, count_by}
 use Rattle.std.proofs.lemmas.List.{drop-drop, take_all}
-use Rattle.std.proofs.lemmas.List.Splits.{slice_split_first}
+use Rattle.std.proofs.lemmas.List.Splits.{slice_split_first, length-slice_split}
+use Rattle.std.proofs.lemmas.List.Sums.{count_by_more_yes, count_by_more_no}
 use Rattle.std.proofs.lemmas.Slice.{between_is}
-use Rattle.std.proofs.lemmas.Bool.{ltb-true, ltb-false}
+use Rattle.std.proofs.lemmas.Bool.{ltb-true, ltb-false, eq-eqb, ne_eqb}
 use Rattle.texts.specs.Cut.{lines, onto, fields, row_of, rows}
 
 found : (t : Bool) (k n : ℕ) → Some n ≡ cond t (Some k) None → (t ≡ true) × (n ≡ k)
@@ -82,3 +83,16 @@ one_part (x ∷ xs) h = last_step (eqb x 9) x xs (one_part xs) h
 pub first_part : (xs : List ℕ) (o : Option ℕ) → o ≡ position (λ x. eqb x 9) xs → MatchOption o (fields xs ≡ xs ∷ []) (λ n. (n < length xs) × (fields xs ≡ take n xs ∷ fields (drop (n + 1) xs)))
 first_part xs (Some k) e = let at = found_at 9 k xs e in (at.0, rw at.1 (slice_split_first (λ x. eqb x 9) xs 0 (omega (arith, at.0, at.1))))
 first_part xs None e = one_part xs (not_found 9 xs e)
+
+-- there is one field more than bytes that end one, of which i bytes have n - 1
+abbrev pub Counted : List ℕ → ℕ → ℕ → Type 0
+Counted xs i n = (n ≤ i + 1) × (n ≡ count_by (λ x. eqb x 9) (take i xs) + 1)
+
+pub count_tab : (xs : List ℕ) (i n : ℕ) → i < length xs → get_or xs i 0 ≡ 9 → Counted xs i n → Counted xs (i + 1) (n + 1)
+count_tab xs i n h e c = let more = count_by_more_yes (λ x. eqb x 9) xs i 0 h (eq-eqb _ _ e) in let few = c.0 in (omega arith, ap (λ k. k + 1) (c.1 ∙ sym more))
+
+pub count_other : (xs : List ℕ) (i n : ℕ) → i < length xs → (get_or xs i 0 ≡ 9 → ⊥) → Counted xs i n → Counted xs (i + 1) n
+count_other xs i n h ne c = let more = count_by_more_no (λ x. eqb x 9) xs i 0 h (ne_eqb _ _ ne) in let few = c.0 in (omega arith, c.1 ∙ ap (λ k. k + 1) (sym more))
+
+pub count_end : (xs : List ℕ) (i n : ℕ) → length xs ≤ i → Counted xs i n → n ≡ length (fields xs)
+count_end xs i n h c = c.1 ∙ ap (λ ys. count_by (λ x. eqb x 9) ys + 1) (take_all i xs h) ∙ sym (length-slice_split (λ x. eqb x 9) xs)

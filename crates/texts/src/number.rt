@@ -57,5 +57,9 @@ pub fn number<N: Unsigned>(part: &[u8], bound: N, at: Spot) -> Result<N, FieldFa
         }
         value = value * 10 + u64::from(*b - b'0');
     }
-    N::up_to(value, bound).ok_or(at.field_fault(FieldWrong::AboveBound))
+    // no `ok_or`, which would make a fault for every number
+    match N::up_to(value, bound) {
+        Some(value) => Ok(value),
+        None => Err(at.field_fault(FieldWrong::AboveBound)),
+    }
 }

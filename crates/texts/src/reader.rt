@@ -1,4 +1,4 @@
-ghost use Rattle.std.specs.Prelude.{◌≤◌, length};
+ghost use Rattle.std.specs.Prelude.{◌+◌, ◌≤◌, length};
 ghost use Rattle.std.specs.Option.{ForSome};
 
 use faults::Text;
@@ -34,4 +34,5 @@ pub struct Reader<'a> {
     ghost ended: { end ≤ length text.now },
     ghost counted: { line ≤ next },
     ghost inside: { ForSome pos (λ p. (field ≤ p) × (p ≤ end)) },
+    ghost handed: { field ≤ end + 1 },
 }

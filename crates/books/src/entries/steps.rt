@@ -26,7 +26,8 @@ impl<'a> Entries<'a> {
         self.progress.told
     }
 
-    // The next entry, or none past the last line.
+    // The next entry, or none past the last line. Inlined, since both passes call it for every line.
+    #[inline(always)]
     pub(crate) fn next(&mut self) -> Result<Option<Entry>, LineFault>
         ensures { EntryStep self.old self.new result }
     {
