@@ -1,3 +1,5 @@
+ghost use Rattle.std.specs.Prelude.{◌≤◌, length};
+
 use arrayvec::ArrayString;
 use build::LINE_ROOM;
 
@@ -7,4 +9,5 @@ pub mod build;
 #[derive(Clone, Copy)]
 pub struct Line {
     text: ArrayString<LINE_ROOM>,
+    ghost few: { length text.bytes ≤ 96 },
 }
