@@ -1,8 +1,8 @@
 -- The derived order of places, which is the library's of two lists, is the order of plans by their places.
-use Rattle.std.proofs.Common.{◌≡◌, ℕ, zero, suc, ◌+◌, List, [], ◌∷◌, length, get_or, Some, refl, ◌∙◌, ap, arith}
+use Rattle.std.proofs.Common.{◌≡◌, ℕ, zero, suc, ◌+◌, List, [], ◌∷◌, length, get_or, Some, refl, sym, ◌∙◌, ap, arith}
 use Rattle.std.proofs.lemmas.Bool.Decides.{nat_tests}
 use Rattle.std.specs.Ordering.{nat_cmp, is_le, is_some_and}
-use Rattle.std.specs.Cmp.Lexicographic.{slice_partial_cmp}
+use Rattle.std.specs.Cmp.Lexicographic.{slice_cmp, slice_partial_cmp, lists_agrees}
 use Rattle.trees.specs.Subspaces.{not_later}
 use Rattle.cells.specs.Cells.{places_of}
 use Rattle.cells.specs.declared.places.Places.{Places}
@@ -28,3 +28,7 @@ listed_from (x ∷ xs) (y ∷ ys) (suc d) i P Q h k p q =
 
 pub listed : (a b : Places) → is_some_and is_le (slice_partial_cmp (λ x y. Some (nat_cmp x y)) a.by_stop b.by_stop) ≡ not_later 12 0 (places_of a) (places_of b)
 listed a b = listed_from a.by_stop b.by_stop 12 0 (places_of a) (places_of b) a.twelve b.twelve (λ j. let e : 0 + j ≡ j = omega arith in ap (places_of a) e) (λ j. let e : 0 + j ≡ j = omega arith in ap (places_of b) e)
+
+-- the same of the order that has no pair without an answer
+pub listed_cmp : (a b : Places) → is_le (slice_cmp nat_cmp a.by_stop b.by_stop) ≡ not_later 12 0 (places_of a) (places_of b)
+listed_cmp a b = sym (ap (is_some_and is_le) (lists_agrees {C = λ x y. Some (nat_cmp x y)} (λ x y. refl) a.by_stop b.by_stop)) ∙ listed a b

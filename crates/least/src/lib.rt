@@ -32,7 +32,8 @@ impl<M: Measure> TotalOrder for Element<M> {
 }
 
 // The index of the least entry; of equals the first; none for an empty list.
-// A loop: `enumerate` with `reduce` was tried, and what it returns was not proved.
+// A loop from the second entry on: over `enumerate` the first would be compared with itself, with `skip(1)` behind it no
+// invariant was found, and with `reduce` what it returns was not proved.
 pub fn least_of<T: TotalOrder>(xs: &[T]) -> Option<usize>
     ensures { FirstLeast T.TotalOrder.precedes xs.now result }
 {
@@ -40,8 +41,8 @@ pub fn least_of<T: TotalOrder>(xs: &[T]) -> Option<usize>
         return None;
     }
     let mut best = 0;
-    for (i, x) in xs.iter().enumerate() {
-        if !xs[best].at_or_before(x) {
+    for i in 1..xs.len() {
+        if !xs[best].at_or_before(&xs[i]) {
             best = i;
         }
     }
