@@ -1,6 +1,6 @@
 -- The choice of a place, one place more at a time.
-use Rattle.std.proofs.Common.{◌≡◌, ℕ, ◌+◌, true, false, cond, None, Option, refl, sym, ap, ◌∙◌, subst, ⊎_elim, arith}
-use Rattle.std.proofs.lemmas.Bool.{cases_Bool, cond-true, cond-false}
+use Rattle.std.proofs.Common.{◌≡◌, ℕ, ◌+◌, ◌<◌, true, false, cond, None, Option, refl, sym, ap, ◌∙◌, subst, ⊎_elim, arith}
+use Rattle.std.proofs.lemmas.Bool.{false≢true, cases_Bool, cond-true, cond-false}
 use Rattle.measures.specs.Laws.{Laws}
 use Rattle.measures.specs.Meaning.{MeasureMeaning}
 use Rattle.measures.specs.Scales.{at_most, optional}
@@ -19,6 +19,11 @@ use Rattle.bounds.specs.Prefixes.{IsBound, Picks}
 pub picks_none : {M V : Type 0} (meaning : MeasureMeaning V) (p : Prefix M V) (out : ℕ) → Picks meaning p out 0 (record { place = 0; value = None })
 unfolding Picks
 picks_none meaning p out τ H tables = record { below = λ r l _. absurd (omega arith); first = λ some. absurd (some refl); there = λ some. absurd (some refl) }
+
+-- where every place is excluded none is chosen
+pub picks_barred : {M V : Type 0} (meaning : MeasureMeaning V) (p : Prefix M V) (out n : ℕ) → ((q : ℕ) → q < n → has_bit out q ≡ true) → Picks meaning p out n (record { place = 0; value = None })
+unfolding Picks
+picks_barred meaning p out n barred τ H tables = record { below = λ r l e. absurd (false≢true (sym e ∙ barred r l)); first = λ some. absurd (some refl); there = λ some. absurd (some refl) }
 
 module _ {M V : Type 0} (meaning : MeasureMeaning V) (laws : Laws meaning.nought meaning.joined meaning.before) (p : Prefix M V) (out q : ℕ) (best : Choice V) where
   -- an excluded place changes nothing

@@ -1,4 +1,5 @@
-ghost use Rattle.std.specs.Prelude.{◌≡◌, ℕ, ◌+◌, ◌<◌, length, if◌then◌else◌, Some, nat_eq};
+ghost use Rattle.std.specs.Prelude.{◌≡◌, ℕ, ◌+◌, ◌<◌, true, length, if◌then◌else◌, Some, nat_eq};
+ghost use Rattle.sets.specs.Sets.{has_bit};
 ghost use Rattle.jobs.specs.Jobs.{stops_of};
 ghost use Rattle.cells.specs.Cells.{places_of};
 
@@ -114,17 +115,32 @@ impl<'a, M: Measure> Prefix<'a, M, M::Value> {
         Joined::of(self).bound(q)
     }
 
-    // The first place of stop i, of those not excluded, whose bound is least.
-    #[tactic(auto, using(crate::proofs::Picking::picks_none))]
+    // Whether no place is left, all being excluded.
+    fn bars_all(&self, excluded: PlaceSet) -> bool
+        ensures { (result ≡ true) → (q : ℕ) → q < self.now.board.now.n → has_bit excluded.bits q ≡ true }
+    {
+        for q in 0..self.board.n {
+            if !excluded.has(q) {
+                return false;
+            }
+        }
+        true
+    }
+
+    // The first place of stop i, of those not excluded, whose bound is least. Where no place is left nothing is joined.
+    #[tactic(auto, using(crate::proofs::Picking::picks_none, crate::proofs::Picking::picks_barred))]
     pub fn pick(&self, excluded: PlaceSet) -> Choice<M::Value>
         ensures picks { Picks M.Measure.meaning self.now excluded.bits self.now.board.now.n result }
         ensures within { 0 < self.now.board.now.n → result.place < self.now.board.now.n }
     {
-        let joined = Joined::of(self);
         let mut best: Choice<M::Value> = Choice {
             place: 0,
             value: None,
         };
+        if self.bars_all(excluded) {
+            return best;
+        }
+        let joined = Joined::of(self);
         for q in 0..self.board.n {
             best = joined.try_place(excluded, best, q);
         }
