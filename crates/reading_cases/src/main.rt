@@ -18,7 +18,7 @@ use jobs::stops::{Stop, Tie};
 use std::alloc::{AllocError, Global};
 use std::fmt::{Display, Formatter, Write};
 use std::slice::Iter;
-use std::{fmt, io, iter};
+use std::{fmt, io};
 use streets::legs::{Leg, LegRecord};
 
 // A kind that stands in the list before a text is read.
@@ -47,7 +47,10 @@ fn fill(out: &mut Vec<u8>, bytes: &mut Iter<u8>) -> Result<(), AllocError>
         count = count.wrapping_mul(10).wrapping_add(u32::from(*b - b'0'));
     }
     if let Some(b) = bytes.next() {
-        out.extend(iter::repeat_n(*b, count as usize))?;
+        // one by one, so that the room doubles: `extend` would take room for just these, and the next byte twice as much
+        for _ in 0..count {
+            out.push(*b)?;
+        }
     }
     Ok(())
 }
