@@ -7,11 +7,12 @@ use Rattle.measures.specs.Laws.{Laws}
 use Rattle.measures.specs.Meaning.{MeasureMeaning}
 use Rattle.jobs.specs.Jobs.{stops_of}
 use Rattle.jobs.specs.Trees.{parent_in}
-use Rattle.measures.specs.Scales.{optional, total}
+use Rattle.measures.specs.Scales.{Scale, optional, total}
+use Rattle.measures.proofs.Totals.{total_more}
 use Rattle.trees.specs.Tasks.{Task, cost, put}
 use Rattle.trees.specs.Minima.{child, hanging, term, bound, besides}
 use Rattle.trees.proofs.Lift.{lifted}
-use Rattle.trees.proofs.Bounds.{total_same, bound_more, bound_root, besides_root}
+use Rattle.trees.proofs.Bounds.{total_same, total_noughts, joined_zero, bound_more, bound_root, besides_root}
 use Rattle.tables.specs.Tables.{own_in, hang_in}
 use Rattle.minima.specs.declared.board.Board.{Board}
 use Rattle.minima.specs.Tables.{hanging_in, Tables}
@@ -28,6 +29,19 @@ same_root s a a' b b' h k = grind (arith, nat_tests)
 
 same_child : {W : Type 0} (c : ℕ) (b : Bool) (a a' d : W) → (0 < c → a ≡ a') → cond (ltb 0 c && b) a d ≡ cond (ltb 0 c && b) a' d
 same_child c b a a' d h = grind (arith, nat_tests)
+
+-- what stop s adds beside stop i: nothing where i is the root or s itself, else its cost or its least value
+pub root_adds : {W : Type 0} (s i p : ℕ) (a b d : W) → i ≡ 0 → cond (eqb s i) d (cond (ltb s i) a (cond (ltb p i) b d)) ≡ d
+root_adds s i p a b d z = grind (arith, nat_tests)
+
+pub below_adds : {W : Type 0} (s i : ℕ) (a b d : W) → s < i → a ≡ cond (eqb s i) d (cond (ltb s i) a b)
+below_adds s i a b d l = grind (arith, nat_tests)
+
+pub self_adds : {W : Type 0} (i : ℕ) (b d : W) → cond (eqb i i) d b ≡ d
+self_adds i b d = grind (arith, nat_tests)
+
+pub behind_adds : {W : Type 0} (s i : ℕ) (b d : W) → i < s → b ≡ cond (eqb s i) d b
+behind_adds s i b d l = grind (arith, nat_tests)
 
 module _ {M V : Type 0} (meaning : MeasureMeaning V) (laws : Laws meaning.nought meaning.joined meaning.before)
     (b : Board M V) (τ : Task (Option V)) (H : ℕ → ℕ → Option V) (tables : Tables meaning b.cells.now b.n (stops_of b.job.now) τ H) where
@@ -92,12 +106,36 @@ pub bound_joined : {M V : Type 0} (meaning : MeasureMeaning V) (laws : Laws mean
 unfolding IsBound
 bound_joined meaning laws p q h τ H tables = bound_is meaning laws p.board.now τ H tables p.i (places_of p.places.now) q p.stop h p.placed
 
--- what a stop adds, from its own value and its link's, which is zero for the root
-pub cost_made : {V : Type 0} (nought : V) (joined : V → V → V) (before : V → V → Bool) (laws : Laws nought joined before) (root : Bool) (own link o l : Option V) →
-    own ≡ o → link ≡ cond root (Some nought) l → both joined own link ≡ cond root o (both joined o l)
-cost_made {V} nought joined before laws root own link o l e f = ap₂ (both joined) e f ∙ root_or root o
-  where
-    root_or : (r : Bool) (o : Option V) → both joined o (cond r (Some nought) l) ≡ cond r o (both joined o l)
-    root_or true (Some x) = ap Some (laws.comm x nought ∙ laws.zero_joined x)
-    root_or true None = refl
-    root_or false o = refl
+module _ {V : Type 0} (nought : V) (joined : V → V → V) (before : V → V → Bool) (laws : Laws nought joined before) (root : Bool) (link v w r : Option V) (e : v ≡ w) (f : r ≡ cond root v (both joined link v)) where
+  -- what a stop adds, its own value joined to its link's
+  pub cost_made : r ≡ cond root w (both joined w link)
+  cost_made = f ∙ ap (λ x. cond root x (both joined link x)) e ∙ ap (cond root w) (turned link w)
+    where
+      turned : (a b : Option V) → both joined a b ≡ both joined b a
+      turned (Some x) (Some y) = ap Some (laws.comm x y)
+      turned (Some x) None = refl
+      turned None (Some y) = refl
+      turned None None = refl
+
+  -- a stop and all below it, its link's value being zero for the root
+  pub here_made : r ≡ both joined (cond root (Some nought) link) w
+  here_made = f ∙ ap (λ x. cond root x (both joined link x)) e ∙ zero_for root w
+    where
+      zero_for : (b : Bool) (x : Option V) → cond b x (both joined link x) ≡ both joined (cond b (Some nought) link) x
+      zero_for true (Some x) = ap Some (sym (laws.zero_joined x))
+      zero_for true None = refl
+      zero_for false x = refl
+
+module _ {V : Type 0} (meaning : MeasureMeaning V) (laws : Laws meaning.nought meaning.joined meaning.before) (σ : Scale (Option V)) (e : σ ≡ optional meaning) where
+  -- what k stops add, where they add nothing
+  pub rest_none : (k : ℕ) (sum : Option V) (f : ℕ → Option V) → sum ≡ Some meaning.nought → ((s : ℕ) → s < k → f s ≡ Some meaning.nought) → sum ≡ total σ k f
+  rest_none k sum f g none = g ∙ sym (total_noughts (optional meaning) (lifted meaning laws) k f none) ∙ ap (λ s. total s k f) (sym e)
+
+  -- with one stop more, which adds nothing
+  pub rest_front : (k : ℕ) (f g : ℕ → Option V) (sum : Option V) → sum ≡ total σ k g → ((s : ℕ) → s < k → g s ≡ f s) → f k ≡ Some meaning.nought → sum ≡ total σ (k + 1) f
+  rest_front k f g sum h each none = h ∙ ap (λ s. total s k g) e ∙ total_same (optional meaning) (lifted meaning laws) k g f each ∙ sym (joined_zero (optional meaning) (lifted meaning laws) _)
+      ∙ ap (both meaning.joined (total (optional meaning) k f)) (sym none) ∙ sym (total_more (optional meaning) k f) ∙ ap (λ s. total s (k + 1) f) (sym e)
+
+  -- and with one that adds x
+  pub rest_more : (k : ℕ) (f : ℕ → Option V) (sum v x : Option V) → sum ≡ total σ k f → v ≡ both meaning.joined sum x → x ≡ f k → v ≡ total σ (k + 1) f
+  rest_more k f sum v x g h is = h ∙ ap₂ (both meaning.joined) (g ∙ ap (λ s. total s k f) e) is ∙ sym (total_more (optional meaning) k f) ∙ ap (λ s. total s (k + 1) f) (sym e)

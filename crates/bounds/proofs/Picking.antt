@@ -1,5 +1,5 @@
 -- The choice of a place, one place more at a time.
-use Rattle.std.proofs.Common.{◌≡◌, ℕ, ◌+◌, ◌<◌, true, false, cond, None, Option, refl, sym, ap, ◌∙◌, subst, ⊎_elim, arith}
+use Rattle.std.proofs.Common.{◌≡◌, ℕ, ◌+◌, ◌<◌, true, false, cond, None, Option, refl, sym, ap, ◌∙◌, subst, ⊎_elim}
 use Rattle.std.proofs.lemmas.Bool.{false≢true, cases_Bool, cond-true, cond-false}
 use Rattle.measures.specs.Laws.{Laws}
 use Rattle.measures.specs.Meaning.{MeasureMeaning}
@@ -14,11 +14,6 @@ use Rattle.cells.specs.Cells.{places_of}
 use Rattle.bounds.specs.declared.choice.Choice.{Choice}
 use Rattle.bounds.specs.declared.prefixes.Prefix.{Prefix}
 use Rattle.bounds.specs.Prefixes.{IsBound, Picks}
-
--- of no places none is chosen
-pub picks_none : {M V : Type 0} (meaning : MeasureMeaning V) (p : Prefix M V) (out : ℕ) → Picks meaning p out 0 (record { place = 0; value = None })
-unfolding Picks
-picks_none meaning p out τ H tables = record { below = λ r l _. absurd (omega arith); first = λ some. absurd (some refl); there = λ some. absurd (some refl) }
 
 -- where every place is excluded none is chosen
 pub picks_barred : {M V : Type 0} (meaning : MeasureMeaning V) (p : Prefix M V) (out n : ℕ) → ((q : ℕ) → q < n → has_bit out q ≡ true) → Picks meaning p out n (record { place = 0; value = None })

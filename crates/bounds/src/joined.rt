@@ -18,7 +18,9 @@ pub(crate) struct Joined<'p, 'a, M: Measure> {
 }
 
 impl<'p, 'a, M: Measure> Joined<'p, 'a, M> {
-    // The prefix, with what its other stops add.
+    // The prefix, with what its other stops add. It and `bound` are inlined: without that a first plan over one place takes up
+    // to a fifth more instructions, and with `bound` alone inlined up to half as many again.
+    #[inline(always)]
     pub(crate) fn of(prefix: &'p Prefix<'a, M, M::Value>) -> Joined<'p, 'a, M>
         ensures { result.prefix.now ≡ prefix.now }
     {
@@ -27,6 +29,7 @@ impl<'p, 'a, M: Measure> Joined<'p, 'a, M> {
     }
 
     // The bound of the prefix with place q for stop i.
+    #[inline(always)]
     #[tactic(auto, using(crate::proofs::Bounding::bound_joined))]
     pub(crate) fn bound(&self, q: usize) -> Option<M::Value>
         requires { q < self.now.prefix.now.board.now.n }

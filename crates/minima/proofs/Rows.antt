@@ -11,11 +11,12 @@ use Rattle.jobs.specs.declared.job.Job.{Job}
 use Rattle.jobs.specs.Jobs.{stops_of}
 use Rattle.jobs.specs.Trees.{tie_in, child_in}
 use Rattle.measures.specs.Scales.{Scale, optional, total}
+use Rattle.measures.proofs.Totals.{total_more}
 use Rattle.trees.specs.Tasks.{Task, cost, LeastOf}
 use Rattle.trees.specs.Minima.{IsLeast, child, hanging, Minimal}
 use Rattle.trees.specs.Subtrees.{subtree_value, SubtreeLeast}
 use Rattle.trees.proofs.Lift.{lifted}
-use Rattle.trees.proofs.Bounds.{total_same, least_same}
+use Rattle.trees.proofs.Bounds.{total_same, total_noughts, joined_zero, least_same}
 use Rattle.trees.proofs.Together.{minima}
 use Rattle.cells.specs.declared.cell.Cell.{Cell}
 use Rattle.tables.specs.Tables.{blank, leg_in, ride_in, own_in, best_in, hang_in, Stays}
@@ -32,6 +33,24 @@ same_place n s q t r h k e = let d : s * n + q ≡ t * n + r = omega arith in sy
 -- the same number of values under another name
 pub least_at : {W : Type 0} {σ : Scale W} {n k : ℕ} {f : ℕ → W} {w : W} → k ≡ n → IsLeast σ n f w → IsLeast σ k f w
 least_at {W} {σ} {n} {k} {f} {w} e least = subst (λ (i : ℕ). IsLeast σ i f w) (sym e) least
+
+not_child : {W : Type 0} (c p s : ℕ) (a d : W) → c < s + 1 → (0 < c → p < c) → cond (ltb 0 c && eqb p s) a d ≡ d
+not_child c p s a d l h = grind (arith, nat_tests)
+
+-- no stop up to stop s hangs on it
+pub childless : {W : Type 0} (j : Job) (s c : ℕ) (a d : W) → c < s + 1 → cond (child_in (stops_of j) s c) a d ≡ d
+childless j s c a d l = not_child c _ s a d l (both_below j c).1
+
+module _ {V : Type 0} (meaning : MeasureMeaning V) (laws : Laws meaning.nought meaning.joined meaning.before) (σ : Scale (Option V)) (e : σ ≡ optional meaning) where
+  -- a value joined to what the first k stops add, where they add nothing
+  pub hung_none : (k : ℕ) (sum own : Option V) (f : ℕ → Option V) → sum ≡ own → ((c : ℕ) → c < k → f c ≡ Some meaning.nought) → sum ≡ both meaning.joined own (total σ k f)
+  hung_none k sum own f g none = g ∙ sym (joined_zero (optional meaning) (lifted meaning laws) own)
+      ∙ ap (both meaning.joined own) (sym (total_noughts (optional meaning) (lifted meaning laws) k f none) ∙ ap (λ s. total s k f) (sym e))
+
+  -- and with one stop more
+  pub hung_more : (k : ℕ) (f : ℕ → Option V) (sum v own : Option V) → sum ≡ both meaning.joined own (total σ k f) → v ≡ both meaning.joined sum (f k) → v ≡ both meaning.joined own (total σ (k + 1) f)
+  hung_more k f sum v own g h = h ∙ ap (λ x. both meaning.joined x (f k)) (g ∙ ap (λ s. both meaning.joined own (total s k f)) e) ∙ (lifted meaning laws).laws.assoc own (total (optional meaning) k f) (f k)
+      ∙ ap (both meaning.joined own) (sym (total_more (optional meaning) k f) ∙ ap (λ s. total s (k + 1) f) (sym e))
 
 module _ {M V : Type 0} where
   pub stays_both : (a b c : List (Cell M V)) → Stays a b → Stays b c → Stays a c

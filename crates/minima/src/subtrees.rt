@@ -27,26 +27,19 @@ impl<'a, M: Measure> Board<'a, M, M::Value> {
         }
     }
 
-    // What all stops that hang on stop s add to its subtree at place q. No `total`, which was tried: it joins once for every
-    // stop, and this for those that hang on s alone. By number: the tables are read by it, and `hangs_on` asks for it.
-    #[tactic(auto, using(measures::proofs::Totals::total_none, measures::proofs::Totals::total_more))]
-    fn hanging(&self, s: usize, q: usize) -> Option<M::Value>
-        requires { q < self.now.n }
-        ensures { result ≡ hanging_in M.Measure.meaning self.now.cells.now self.now.n (stops_of self.now.job.now) s q }
-    {
-        let mut sum = Some(M::ZERO);
-        for c in 0..self.job.len() {
-            sum = self.with_hanging(sum, s, q, c);
-        }
-        sum
-    }
-
-    // The least value of the subtree of stop s at place q, where the stops that hang on it have theirs.
+    // The least value of the subtree of stop s at place q, where the stops that hang on it, all of greater numbers, have theirs.
+    // No `total`, which was tried: it joins once for every stop, and this for those that hang on s alone. By number: the tables
+    // are read by it, and `hangs_on` asks for it.
+    #[tactic(auto, using(crate::proofs::Rows::hung_none, crate::proofs::Rows::childless, crate::proofs::Rows::hung_more))]
     pub fn best_value(&self, s: usize, q: usize) -> Option<M::Value>
         requires { (s < length (stops_of self.now.job.now)) × (q < self.now.n) }
         ensures { result ≡ both M.Measure.meaning.joined (own_in self.now.cells.now self.now.n s q) (hanging_in M.Measure.meaning self.now.cells.now self.now.n (stops_of self.now.job.now) s q) }
     {
-        join_options::<M>(self.at(s, q).own, self.hanging(s, q))
+        let mut sum = self.at(s, q).own;
+        for c in s + 1..self.job.len() {
+            sum = self.with_hanging(sum, s, q, c);
+        }
+        sum
     }
 
     // The value of the link of stop s from place p to place q, with the least of its subtree there.

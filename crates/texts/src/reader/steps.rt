@@ -30,7 +30,7 @@ fn line_end(text: &[u8], start: usize) -> Option<usize>
 }
 
 // How many fields a line has: one more than the bytes between them. A loop: `split` and `filter`, each with `count`, were tried,
-// and take up to twice the time over many short fields.
+// and take up to three times as long over many short fields.
 #[tactic(auto, using(crate::proofs::Cuts::count_tab, crate::proofs::Cuts::count_other))]
 fn count_fields(line: &[u8]) -> usize
     ensures { result ≡ length (fields line.now) }
