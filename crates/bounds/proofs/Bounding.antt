@@ -1,5 +1,5 @@
 -- The rest, joined to what a stop adds at a place, is the bound.
-use Rattle.std.proofs.Common.{◌≡◌, ℕ, ◌+◌, ◌<◌, ◌≤◌, Bool, true, false, ◌&&◌, cond, eqb, ltb, length, Some, None, Option, refl, sym, ap, ◌∙◌, subst, ap₂, ⊎_elim, arith}
+use Rattle.std.proofs.Common.{◌≡◌, ℕ, ◌+◌, ◌<◌, ◌≤◌, Bool, true, false, ◌&&◌, cond, eqb, ltb, length, Some, Option, refl, sym, ap, ◌∙◌, subst, ap₂, ⊎_elim, arith}
 use Rattle.measures.specs.Optional.{both}
 use Rattle.std.proofs.lemmas.Bool.{cases_lt, cases_eq, cond-false, ne_eqb}
 use Rattle.std.proofs.lemmas.Bool.Decides.{nat_tests}
@@ -106,25 +106,18 @@ pub bound_joined : {M V : Type 0} (meaning : MeasureMeaning V) (laws : Laws mean
 unfolding IsBound
 bound_joined meaning laws p q h τ H tables = bound_is meaning laws p.board.now τ H tables p.i (places_of p.places.now) q p.stop h p.placed
 
-module _ {V : Type 0} (nought : V) (joined : V → V → V) (before : V → V → Bool) (laws : Laws nought joined before) (root : Bool) (link v w r : Option V) (e : v ≡ w) (f : r ≡ cond root v (both joined link v)) where
+module _ {V : Type 0} (meaning : MeasureMeaning V) (laws : Laws meaning.nought meaning.joined meaning.before) (root : Bool) (link v w r : Option V) (e : v ≡ w) (f : r ≡ cond root v (both meaning.joined link v)) where
   -- what a stop adds, its own value joined to its link's
-  pub cost_made : r ≡ cond root w (both joined w link)
-  cost_made = f ∙ ap (λ x. cond root x (both joined link x)) e ∙ ap (cond root w) (turned link w)
-    where
-      turned : (a b : Option V) → both joined a b ≡ both joined b a
-      turned (Some x) (Some y) = ap Some (laws.comm x y)
-      turned (Some x) None = refl
-      turned None (Some y) = refl
-      turned None None = refl
+  pub cost_made : r ≡ cond root w (both meaning.joined w link)
+  cost_made = f ∙ ap (λ x. cond root x (both meaning.joined link x)) e ∙ ap (cond root w) ((lifted meaning laws).laws.comm link w)
 
   -- a stop and all below it, its link's value being zero for the root
-  pub here_made : r ≡ both joined (cond root (Some nought) link) w
-  here_made = f ∙ ap (λ x. cond root x (both joined link x)) e ∙ zero_for root w
+  pub here_made : r ≡ both meaning.joined (cond root (Some meaning.nought) link) w
+  here_made = f ∙ ap (λ x. cond root x (both meaning.joined link x)) e ∙ zero_for root
     where
-      zero_for : (b : Bool) (x : Option V) → cond b x (both joined link x) ≡ both joined (cond b (Some nought) link) x
-      zero_for true (Some x) = ap Some (sym (laws.zero_joined x))
-      zero_for true None = refl
-      zero_for false x = refl
+      zero_for : (b : Bool) → cond b w (both meaning.joined link w) ≡ both meaning.joined (cond b (Some meaning.nought) link) w
+      zero_for true = sym ((lifted meaning laws).laws.zero_joined w)
+      zero_for false = refl
 
 module _ {V : Type 0} (meaning : MeasureMeaning V) (laws : Laws meaning.nought meaning.joined meaning.before) (σ : Scale (Option V)) (e : σ ≡ optional meaning) where
   -- what k stops add, where they add nothing
